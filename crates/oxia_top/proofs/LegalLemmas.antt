@@ -1,0 +1,296 @@
+-- Every run is legal.
+use Rattle.std.proofs.Common.{◌≡◌, ◌≢◌, ◌∙◌, ℕ, zero, suc, ◌+◌, ◌-◌, ◌<◌, ◌≤◌, ◌&&◌, true, List, [], ◌∷◌, ◌++◌, length, take, drop, map, slice_get, Option, Some, None, ◌⊎◌, inl, inr, refl, sym, ap, subst, arith, length-append, append-nil, append_assoc, add-one}
+use Rattle.std.proofs.Math.Seq.{take-append_seam, take-length}
+use Rattle.std.proofs.lemmas.Grind.{common_steps}
+use Rattle.oxia_top.specs.declared.ops.Command.{Command}
+use Rattle.oxia_top.specs.declared.ops.Query.{Query}
+use Rattle.oxia_top.specs.declared.ops.Reply.{Reply}
+use Rattle.oxia_top.specs.declared.ops.Answer.{Answer}
+use Rattle.oxia_top.specs.declared.schedule.Request.{Request}
+use Rattle.oxia_top.specs.declared.schedule.Request.TheVariants as request
+use Rattle.oxia_top.specs.declared.schedule.Event.{Event}
+use Rattle.oxia_top.specs.declared.schedule.Event.TheVariants.{Client}
+use Rattle.oxia_top.specs.declared.leader.Body.TheVariants as body
+use Rattle.oxia_top.specs.declared.leader.Entry.{Entry}
+use Rattle.oxia_top.specs.declared.leader.Outcome.TheVariants as outcome
+use Rattle.oxia_top.specs.declared.world.Cause.{Cause}
+use Rattle.oxia_top.specs.declared.world.Cause.TheVariants as cause
+use Rattle.oxia_top.specs.declared.world.Origin.{Origin}
+use Rattle.oxia_top.specs.declared.world.Effect.{Effect}
+use Rattle.oxia_top.specs.declared.world.Effect.TheVariants.{Arrival, Kept, Answered}
+use Rattle.oxia_top.specs.Meaning.{Meaning, id_of, after, state_from, state_after, reply_at, answer_after}
+use Rattle.oxia_top.specs.Leader.{Replica, pass_entry, entry_of, with_entry, writes, reads, takes}
+use Rattle.oxia_top.specs.World.{World, grown, origin_of, comes, happens, opening_world, world_after}
+use Rattle.oxia_top.specs.Origins.{AreInStep}
+use Rattle.oxia_top.specs.Moments.{Begins, world_at}
+use Rattle.oxia_top.proofs.OriginLemmas.{get_more, get_last, get_within, get_some}
+
+-- ---- lists
+
+take_all : {A : Type 0} (xs : List A) (x : A) → take (length xs + 1) (xs ++ x ∷ []) ≡ xs ++ x ∷ []
+take_all xs x = ap (λ n. take n (xs ++ x ∷ [])) (sym (length-append xs (x ∷ []))) ∙ take-length (xs ++ x ∷ [])
+
+drop_front : {A : Type 0} (xs ys : List A) → drop (length xs) (xs ++ ys) ≡ ys
+drop_front [] ys = refl
+drop_front (x ∷ xs) ys = drop_front xs ys
+
+drop_all : {A : Type 0} (xs : List A) → drop (length xs) xs ≡ []
+drop_all [] = refl
+drop_all (x ∷ xs) = drop_all xs
+
+-- a history that is the whole log grows by the entry that the log does
+pub grown_one : (log : List Entry) (e : Entry) → grown log (log ++ e ∷ []) (length log + 1) ≡ log ++ e ∷ []
+grown_one log e = ap (λ t. log ++ drop (length log) t) (take_all log e) ∙ ap (λ t. log ++ t) (drop_front log (e ∷ []))
+
+pub grown_none : (log : List Entry) → grown log log (length log) ≡ log
+grown_none log = ap (λ t. log ++ drop (length log) t) (take-length log) ∙ ap (λ t. log ++ t) (drop_all log) ∙ append-nil log
+
+split : (j k : ℕ) → j ≤ suc k → (j ≤ k) ⊎ (j ≡ suc k)
+split j k h = grind (arith, common_steps)
+
+module _ {S : Type 0} (M : Meaning S) where
+  -- ---- what a request makes of a world whose history is the whole log
+
+  pub comes_write : (r : Replica S) (before a s : ℕ) (os : List Origin) (c : Command) → record { replica = with_entry M r (entry_of M r c); arrivals = a; origins = os ++ origin_of s (cause.Arrival a) (entry_of M r c) ∷ []; history = r.log ++ entry_of M r c ∷ [] } ≡ (comes (record { replica = r; arrivals = before; origins = os; history = r.log }) s a (writes M r c)).world
+  comes_write r before a s os c = rw (grown_one r.log (entry_of M r c)) refl
+
+  pub comes_written : (w : World S) (r r' : Replica S) (before a s : ℕ) (os os' : List Origin) (c : Command) → w ≡ record { replica = r; arrivals = before; origins = os; history = r.log } → r' ≡ (writes M r c).state → os' ≡ os ++ origin_of s (cause.Arrival a) (entry_of M r c) ∷ [] → record { replica = r'; arrivals = a; origins = os'; history = r'.log } ≡ (comes w s a (writes M w.replica c)).world
+  comes_written w r r' before a s os os' c is state origins = rw (is, state, origins) (comes_write r before a s os c)
+
+  pub comes_read : (r : Replica S) (before a s : ℕ) (os : List Origin) (q : Query) → r.commit ≡ length r.log → record { replica = r; arrivals = a; origins = os; history = r.log } ≡ (comes (record { replica = r; arrivals = before; origins = os; history = r.log }) s a (reads M r q)).world
+  comes_read r before a s os q whole = rw (whole, grown_none r.log, append-nil os) refl
+
+  -- ---- the one-thread store
+
+  state_from-append : (s : S) (xs ys : List Entry) → state_from M s (xs ++ ys) ≡ state_from M (state_from M s xs) ys
+  state_from-append s [] ys = refl
+  state_from-append s (x ∷ xs) ys = state_from-append (after M s x) xs ys
+
+  state_more : (h : List Entry) (e : Entry) → state_after M (h ++ e ∷ []) ≡ after M (state_after M h) e
+  unfolding state_after
+  state_more h e = state_from-append M.opening h (e ∷ [])
+
+  state_pass : state_after M (pass_entry ∷ []) ≡ M.opening
+  unfolding state_after
+  state_pass = refl
+
+  -- ---- worlds in which the leader has applied all of its log, which is the history
+
+  pub record IsSound (w : World S) : Type 0 where
+    pub history : w.history ≡ w.replica.log
+    pub commit : w.replica.commit ≡ length w.replica.log
+    pub value : w.replica.value ≡ state_after M w.replica.log
+    pub term : w.replica.term ≡ 1
+    pub steps : AreInStep w.replica.log w.origins
+    pub bound : (i a : ℕ) (x : Origin) → slice_get w.origins i ≡ Some x → x.cause ≡ cause.Arrival a → a ≤ w.arrivals
+    pub once : (i j a : ℕ) (x y : Origin) → slice_get w.origins i ≡ Some x → slice_get w.origins j ≡ Some y → x.cause ≡ cause.Arrival a → y.cause ≡ cause.Arrival a → i ≡ j
+
+  abbrev pub counted : World S → World S
+  counted w = record { replica = w.replica; arrivals = w.arrivals + 1; origins = w.origins; history = w.history }
+
+  abbrev pub new_entry : World S → Command → Entry
+  new_entry w c = entry_of M w.replica c
+
+  abbrev pub new_origin : World S → Command → Origin
+  new_origin w c = origin_of 0 (cause.Arrival (w.arrivals + 1)) (new_entry w c)
+
+  abbrev pub written : World S → Command → World S
+  written w c = record {
+    replica = with_entry M w.replica (new_entry w c);
+    arrivals = w.arrivals + 1;
+    origins = w.origins ++ new_origin w c ∷ [];
+    history = w.replica.log ++ new_entry w c ∷ [];
+  }
+
+  pub read_is : (w : World S) (n s : ℕ) (q : Query) → IsSound w → (happens M w (Client n s (request.Read q))).world ≡ counted w
+  unfolding happens
+  read_is w n s q h =
+      let same : grown w.history w.replica.log w.replica.commit ≡ w.history = rw (h.history, h.commit) (grown_none w.replica.log) in
+      rw (same, append-nil w.origins) refl
+
+  pub write_is : (w : World S) (n : ℕ) (c : Command) → IsSound w → (happens M w (Client n 0 (request.Write c))).world ≡ written w c
+  unfolding happens
+  write_is w n c h =
+      let same : grown w.history (w.replica.log ++ new_entry w c ∷ []) (length w.replica.log + 1) ≡ w.replica.log ++ new_entry w c ∷ [] = rw h.history (grown_one w.replica.log (new_entry w c)) in
+      rw same refl
+
+  pub opening_sound : IsSound (opening_world M)
+  opening_sound = record {
+    history = refl;
+    commit = refl;
+    value = sym state_pass;
+    term = refl;
+    steps = record { long = refl; entry = entries; origin = origins };
+    bound = λ i a x g e. absurd (no_arrival i a x g e);
+    once = λ i j a x y g k e f. absurd (no_arrival i a x g e);
+  }
+    where
+      entries : (i : ℕ) (e : Entry) → slice_get (pass_entry ∷ []) i ≡ Some e → (e.term ≡ 1) × (e.offset ≡ i)
+      entries zero e g = let is : pass_entry ≡ e = cc in rw (← is) (refl, refl)
+      entries (suc i) e g = absurd cc
+
+      origins : (i : ℕ) (x : Origin) → slice_get (origin_of 0 cause.Opening pass_entry ∷ []) i ≡ Some x → (x.shard ≡ 0) × (x.term ≡ 1) × (x.offset ≡ i)
+      origins zero x g = let is : origin_of 0 cause.Opening pass_entry ≡ x = cc in rw (← is) (refl, refl, refl)
+      origins (suc i) x g = absurd cc
+
+      no_arrival : (i a : ℕ) (x : Origin) → slice_get (origin_of 0 cause.Opening pass_entry ∷ []) i ≡ Some x → x.cause ≡ cause.Arrival a → ⊥
+      no_arrival zero a x g e = let is : cause.Opening ≡ x.cause = cc in let never : cause.Opening ≡ cause.Arrival a = is ∙ e in cc
+      no_arrival (suc i) a x g e = absurd cc
+
+  counted_sound : (w : World S) → IsSound w → IsSound (counted w)
+  counted_sound w h = record {
+    history = h.history;
+    commit = h.commit;
+    value = h.value;
+    term = h.term;
+    steps = h.steps;
+    bound = λ i a x g e. omega (arith, h.bound i a x g e);
+    once = h.once;
+  }
+
+  arrival_is : (a b : ℕ) → cause.Arrival a ≡ cause.Arrival b → a ≡ b
+  arrival_is a b e = cc
+
+  written_sound : (w : World S) (c : Command) → IsSound w → IsSound (written w c)
+  written_sound w c h = record {
+    history = refl;
+    commit = sym (length-append w.replica.log (new_entry w c ∷ []));
+    value = ap (λ v. after M v (new_entry w c)) h.value ∙ sym (state_more w.replica.log (new_entry w c));
+    term = h.term;
+    steps = record { long = long; entry = entries; origin = origins };
+    bound = bound;
+    once = once;
+  }
+    where
+      long : length (w.origins ++ new_origin w c ∷ []) ≡ length (w.replica.log ++ new_entry w c ∷ [])
+      long = omega (arith, length-append w.origins (new_origin w c ∷ []), length-append w.replica.log (new_entry w c ∷ []), h.steps.long)
+
+      entries : (i : ℕ) (e : Entry) → slice_get (w.replica.log ++ new_entry w c ∷ []) i ≡ Some e → (e.term ≡ 1) × (e.offset ≡ i)
+      entries i e g = elim (get_more w.replica.log (new_entry w c) e i g) [
+        | inl k ↦ h.steps.entry i e k
+        | inr p ↦ (sym (ap (λ (x : Entry). x.term) p.1) ∙ h.term, sym (ap (λ (x : Entry). x.offset) p.1) ∙ sym p.0)
+      ]
+
+      origins : (i : ℕ) (x : Origin) → slice_get (w.origins ++ new_origin w c ∷ []) i ≡ Some x → (x.shard ≡ 0) × (x.term ≡ 1) × (x.offset ≡ i)
+      origins i x g = elim (get_more w.origins (new_origin w c) x i g) [
+        | inl k ↦ h.steps.origin i x k
+        | inr p ↦ (sym (ap (λ (y : Origin). y.shard) p.1), sym (ap (λ (y : Origin). y.term) p.1) ∙ h.term, sym (ap (λ (y : Origin). y.offset) p.1) ∙ sym h.steps.long ∙ sym p.0)
+      ]
+
+      new_arrival : (x : Origin) (a : ℕ) → new_origin w c ≡ x → x.cause ≡ cause.Arrival a → a ≡ w.arrivals + 1
+      new_arrival x a p e = sym (arrival_is (w.arrivals + 1) a (ap (λ (y : Origin). y.cause) p ∙ e))
+
+      bound : (i a : ℕ) (x : Origin) → slice_get (w.origins ++ new_origin w c ∷ []) i ≡ Some x → x.cause ≡ cause.Arrival a → a ≤ w.arrivals + 1
+      bound i a x g e = elim (get_more w.origins (new_origin w c) x i g) [
+        | inl k ↦ omega (arith, h.bound i a x k e)
+        | inr p ↦ omega (arith, new_arrival x a p.1 e)
+      ]
+
+      once : (i j a : ℕ) (x y : Origin) → slice_get (w.origins ++ new_origin w c ∷ []) i ≡ Some x → slice_get (w.origins ++ new_origin w c ∷ []) j ≡ Some y → x.cause ≡ cause.Arrival a → y.cause ≡ cause.Arrival a → i ≡ j
+      once i j a x y g k e f = elim (get_more w.origins (new_origin w c) x i g) [
+        | inl m ↦ elim (get_more w.origins (new_origin w c) y j k) [
+          | inl n ↦ h.once i j a x y m n e f
+          | inr q ↦ absurd (omega (arith, h.bound i a x m e, new_arrival y a q.1 f))
+        ]
+        | inr p ↦ elim (get_more w.origins (new_origin w c) y j k) [
+          | inl n ↦ absurd (omega (arith, h.bound j a y n f, new_arrival x a p.1 e))
+          | inr q ↦ p.0 ∙ sym q.0
+        ]
+      ]
+
+  pub next_sound : (w : World S) (n : ℕ) (r : Request) → IsSound w → IsSound (happens M w (Client n 0 r)).world
+  next_sound w n (request.Write c) h = subst IsSound (sym (write_is w n c h)) (written_sound w c h)
+  next_sound w n (request.Read q) h = subst IsSound (sym (read_is w n 0 q h)) (counted_sound w h)
+
+  -- ---- worlds by their place
+
+  world_next : (w : World S) (es : List Event) (k : ℕ) (e : Event) → slice_get es k ≡ Some e → world_after M w (take (suc k) es) ≡ (happens M (world_after M w (take k es)) e).world
+  world_next w [] k e h = absurd cc
+  world_next w (d ∷ es) zero e h = let is : d ≡ e = cc in ap (λ x. (happens M w x).world) is
+  world_next w (d ∷ es) (suc k) e h = world_next (happens M w d).world es k e h
+
+  world_stays : (w : World S) (es : List Event) (k : ℕ) → slice_get es k ≡ None → world_after M w (take (suc k) es) ≡ world_after M w (take k es)
+  world_stays w [] zero h = refl
+  world_stays w [] (suc k) h = refl
+  world_stays w (d ∷ es) zero h = absurd cc
+  world_stays w (d ∷ es) (suc k) h = world_stays (happens M w d).world es k h
+
+  -- all events are at shard 0
+  abbrev pub AtShardZero : List Event → Type 0
+  AtShardZero es = (k n s : ℕ) (r : Request) → slice_get es k ≡ Some (Client n s r) → s ≡ 0
+
+  module _ (es : List Event) where
+    pub at_next : (k : ℕ) (e : Event) → slice_get es k ≡ Some e → world_at M es (suc k) ≡ (happens M (world_at M es k) e).world
+    unfolding world_at
+    at_next k e h = world_next (opening_world M) es k e h
+
+    pub at_end : (k : ℕ) → slice_get es k ≡ None → world_at M es (suc k) ≡ world_at M es k
+    unfolding world_at
+    at_end k h = world_stays (opening_world M) es k h
+
+    pub at_first : world_at M es 0 ≡ opening_world M
+    unfolding world_at
+    at_first = first es
+      where
+        first : (xs : List Event) → world_after M (opening_world M) (take 0 xs) ≡ opening_world M
+        first [] = refl
+        first (x ∷ xs) = refl
+
+    sound_next : AtShardZero es → (k : ℕ) → IsSound (world_at M es k) → (o : Option Event) → slice_get es k ≡ o → IsSound (world_at M es (suc k))
+    sound_next only k sound None e = subst IsSound (sym (at_end k e)) sound
+    sound_next only k sound (Some (Client n s r)) e =
+        let zero_shard : s ≡ 0 = only k n s r e in
+        let here : slice_get es k ≡ Some (Client n 0 r) = e ∙ ap (λ x. Some (Client n x r)) zero_shard in
+        subst IsSound (sym (at_next k (Client n 0 r) here)) (next_sound (world_at M es k) n r sound)
+
+    pub sound_at : AtShardZero es → (k : ℕ) → IsSound (world_at M es k)
+    sound_at only zero = subst IsSound (sym at_first) opening_sound
+    sound_at only (suc k) = sound_next only k (sound_at only k) (slice_get es k) refl
+
+    grows : (w : World S) (e : Event) → Begins w.history (happens M w e).world.history
+    unfolding happens
+    grows w (Client n s r) = (_, refl)
+
+    counts : (w : World S) (e : Event) → (happens M w e).world.arrivals ≡ w.arrivals + 1
+    unfolding happens
+    counts w (Client n s r) = refl
+
+    -- the history of one moment begins that of the next
+    begins_next : (k : ℕ) → Begins (world_at M es k).history (world_at M es (suc k)).history
+    begins_next k = by_event (slice_get es k) refl
+      where
+        by_event : (o : Option Event) → slice_get es k ≡ o → Begins (world_at M es k).history (world_at M es (suc k)).history
+        by_event None e = ([], ap (λ (w : World S). w.history) (at_end k e) ∙ sym (append-nil _))
+        by_event (Some d) e =
+            let g = grows (world_at M es k) d in
+            (g.0, ap (λ (w : World S). w.history) (at_next k d e) ∙ g.1)
+
+    pub begins_later : (j k : ℕ) → j ≤ k → Begins (world_at M es j).history (world_at M es k).history
+    begins_later j zero h = let is : j ≡ 0 = omega arith in rw is ([], sym (append-nil _))
+    begins_later j (suc k) h = elim (split j k h) [
+      | inl lower ↦
+          let a = begins_later j k lower in
+          let b = begins_next k in
+          (a.0 ++ b.0, b.1 ∙ ap (λ t. t ++ b.0) a.1 ∙ append_assoc _ a.0 b.0)
+      | inr same ↦ rw same ([], sym (append-nil _))
+    ]
+
+    begins_shorter : (xs ys : List Entry) → Begins xs ys → length xs ≤ length ys
+    begins_shorter xs ys b = omega (arith, ap length b.1, length-append xs b.0)
+
+    pub longer_later : (j k : ℕ) → j ≤ k → length (world_at M es j).history ≤ length (world_at M es k).history
+    longer_later j k h = begins_shorter _ _ (begins_later j k h)
+
+    pub arrivals_next : (k : ℕ) (e : Event) → slice_get es k ≡ Some e → (world_at M es (suc k)).arrivals ≡ (world_at M es k).arrivals + 1
+    arrivals_next k e h = ap (λ (w : World S). w.arrivals) (at_next k e h) ∙ counts (world_at M es k) e
+
+    arrivals_one : (k : ℕ) (o : Option Event) → slice_get es k ≡ o → (world_at M es k).arrivals ≤ (world_at M es (suc k)).arrivals
+    arrivals_one k None e = omega (arith, ap (λ (w : World S). w.arrivals) (at_end k e))
+    arrivals_one k (Some d) e = omega (arith, arrivals_next k d e)
+
+    pub arrivals_later : (j k : ℕ) → j ≤ k → (world_at M es j).arrivals ≤ (world_at M es k).arrivals
+    arrivals_later j zero h = let is : j ≡ 0 = omega arith in rw is (omega arith)
+    arrivals_later j (suc k) h = elim (split j k h) [
+      | inl lower ↦ omega (arith, arrivals_later j k lower, arrivals_one k (slice_get es k) refl)
+      | inr same ↦ rw same (omega arith)
+    ]

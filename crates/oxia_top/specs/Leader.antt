@@ -1,0 +1,60 @@
+-- One step of a leader that is alone in its ensemble: what it keeps is committed and applied at once.
+use Rattle.std.specs.Prelude.{ℕ, ◌+◌, List, [], ◌∷◌, ◌++◌, length}
+use Rattle.oxia_top.specs.declared.ops.Command.{Command}
+use Rattle.oxia_top.specs.declared.ops.Query.{Query}
+use Rattle.oxia_top.specs.declared.schedule.Request.{Request}
+use Rattle.oxia_top.specs.declared.schedule.Request.TheVariants.{Write, Read}
+use Rattle.oxia_top.specs.declared.leader.Body.TheVariants as body
+use Rattle.oxia_top.specs.declared.leader.Entry.{Entry}
+use Rattle.oxia_top.specs.declared.leader.Outcome.{Outcome}
+use Rattle.oxia_top.specs.declared.leader.Outcome.TheVariants as outcome
+use Rattle.oxia_top.specs.Meaning.{Meaning, id_of, after}
+
+-- the log of a leader, the count that it knows to be committed, and the machine that has applied so many entries
+pub record Replica (S : Type 0) : Type 0 where
+  pub term : ℕ
+  pub log : List Entry
+  pub commit : ℕ
+  pub value : S
+  -- the time that it has reached
+  pub clock : ℕ
+
+-- the first entry of a leader's term
+abbrev pub pass_entry : Entry
+pass_entry = record { term = 1; offset = 0; time = 0; body = body.Pass }
+
+-- what a step makes: the state after it, the entries that it keeps in one batch, and what the client is told
+pub record Output (S : Type 0) : Type 0 where
+  pub state : Replica S
+  pub kept : List Entry
+  pub outcome : Outcome
+
+module _ {S : Type 0} (M : Meaning S) where
+  -- one Pass of term 1, kept and committed
+  abbrev pub opening_replica : Replica S
+  opening_replica = record { term = 1; log = pass_entry ∷ []; commit = 1; value = M.opening; clock = 0 }
+
+  -- the entry that the leader makes of a command: it has the time that the leader has reached
+  abbrev pub entry_of : Replica S → Command → Entry
+  entry_of r command = record { term = r.term; offset = length r.log; time = r.clock; body = body.Command command }
+
+  -- the leader with one entry more, which is committed and applied
+  abbrev pub with_entry : Replica S → Entry → Replica S
+  with_entry r e = record { term = r.term; log = r.log ++ e ∷ []; commit = length r.log + 1; value = after M r.value e; clock = r.clock }
+
+  -- a write is kept, and acknowledged with its term, its offset and its reply
+  abbrev pub writes : Replica S → Command → Output S
+  writes r command = record {
+    state = with_entry r (entry_of r command);
+    kept = entry_of r command ∷ [];
+    outcome = outcome.Ack r.term (length r.log) (M.reply r.value (id_of (entry_of r command)) r.clock command);
+  }
+
+  -- a read is answered from what is committed
+  abbrev pub reads : Replica S → Query → Output S
+  reads r query = record { state = r; kept = []; outcome = outcome.Read r.term r.commit (M.answer r.value query) }
+
+  -- the step of a request
+  abbrev pub takes : Replica S → Request → Output S
+  takes r (Write command) = writes r command
+  takes r (Read query) = reads r query

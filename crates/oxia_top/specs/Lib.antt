@@ -1,0 +1,17 @@
+pub mod Spelling
+pub mod Shape
+pub mod Outcome
+pub mod Reading
+pub mod Schedule
+pub mod Store
+pub mod Kept
+pub mod Meaning
+pub mod Shard
+pub mod Leader
+pub mod World
+pub mod Origins
+pub mod Moments
+pub mod Legal
+pub mod Report
+pub mod Input
+pub mod Top

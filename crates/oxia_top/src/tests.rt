@@ -1,0 +1,270 @@
+use super::*;
+use ox_outside::{Failed, Sink, Source};
+use ox_types::{Ended, LineRule, List, NoMemory, Octets};
+use std::alloc::Global;
+use std::test::Fail;
+
+/// A source over memory, which fails at one read.
+#[derive(Drop)]
+struct Given<'a> {
+    rest: &'a [u8],
+    faults: u64,
+    fails_in: u64,
+}
+
+impl Source for Given<'_> {
+    ghost use Rattle.std.specs.Prelude.{Some};
+
+    ghost stream = { λ s. record { told = Some s.rest.now; faults = s.faults } };
+
+    fn read(&mut self, into: &mut [u8]) -> Result<usize, Failed> {
+        if self.fails_in == 0 {
+            self.faults = self.faults.saturating_add(1);
+            return Err(Failed);
+        }
+        self.fails_in -= 1;
+        let count = into.len().min(self.rest.len()).min(4096);
+        let (front, rest) = self.rest.split_at(count);
+        into[..count].copy_from_slice(front);
+        self.rest = rest;
+        Ok(count)
+    }
+}
+
+/// A sink over memory that takes one byte at a time, and fails at one write.
+#[derive(Drop)]
+struct Taken {
+    bytes: Octets,
+    faults: u64,
+    fails_in: u64,
+}
+
+impl Sink for Taken {
+    ghost use Rattle.std.specs.Prelude.{Some};
+
+    ghost stream = { λ s. record { told = Some s.bytes; faults = s.faults } };
+
+    fn write(&mut self, bytes: &[u8]) -> Result<usize, Failed> {
+        let count = bytes.len().min(1);
+        if self.fails_in > 0 && self.bytes.extend(&bytes[..count]).is_ok() {
+            self.fails_in -= 1;
+            return Ok(count);
+        }
+        self.faults = self.faults.saturating_add(1);
+        Err(Failed)
+    }
+}
+
+/// A source of so many bytes, all of them 0, that tells nothing.
+#[derive(Drop)]
+struct Zeros {
+    left: usize,
+}
+
+impl Source for Zeros {
+    ghost use Rattle.std.specs.Prelude.{None};
+
+    ghost stream = { λ _. record { told = None; faults = 0 } };
+
+    fn read(&mut self, into: &mut [u8]) -> Result<usize, Failed> {
+        let count = into.len().min(self.left);
+        self.left -= count;
+        Ok(count)
+    }
+}
+
+fn words_of(alloc: Global, words: &[&[u8]]) -> Result<List<Octets>, NoMemory> {
+    let mut list = List::new(alloc);
+    for word in words {
+        list.push(Octets::from_slice(alloc, word)?)?;
+    }
+    Ok(list)
+}
+
+fn sink(alloc: Global, fails_in: u64) -> Taken {
+    Taken {
+        bytes: Octets::new(alloc),
+        faults: 0,
+        fails_in,
+    }
+}
+
+fn replayed(
+    alloc: Global,
+    text: &[u8],
+    reads: u64,
+    writes: u64,
+) -> Result<(Ended, Octets), NoMemory> {
+    let words = words_of(alloc, &[b"replay"])?;
+    let mut source = Given {
+        rest: text,
+        faults: 0,
+        fails_in: reads,
+    };
+    let mut sink = sink(alloc, writes);
+    let ended = oxia(alloc, &words, &mut source, &mut sink);
+    let Taken { bytes, .. } = sink;
+    Ok((ended, bytes))
+}
+
+/// How a command ends over so many bytes 0.
+fn ended(alloc: Global, words: &[&[u8]], left: usize) -> Result<Ended, NoMemory> {
+    let words = words_of(alloc, words)?;
+    let mut source = Zeros { left };
+    let mut sink = sink(alloc, 1000);
+    Ok(oxia(alloc, &words, &mut source, &mut sink))
+}
+
+#[test]
+fn words_that_are_no_command(rt: HostRuntime) -> Result<(), Fail> {
+    assert_eq!(rt; ended(rt.alloc(), &[], 0)?, Ended::Usage { word: 0 });
+    assert_eq!(rt;
+        ended(rt.alloc(), &[b"relay"], 0)?,
+        Ended::Usage { word: 0 }
+    );
+    assert_eq!(rt;
+        ended(rt.alloc(), &[b"replay", b"x"], 0)?,
+        Ended::Usage { word: 1 }
+    );
+    Ok(())
+}
+
+#[test]
+fn a_second_put_counts_a_modification(rt: HostRuntime) -> Result<(), Fail> {
+    let text = b"solo 1\nclient 1 0 put a x\nclient 1 0 put a y\nclient 1 0 get equal a\n";
+    let (ended, bytes) = replayed(rt.alloc(), text, 1000, 1000)?;
+    assert_eq!(rt; ended, Ended::Done);
+    let wanted =
+        b"@1 client 1 0 put a x\n  arrival 1\n  kept append=1 head=1:2\n  ack 1 1 1 put a 0 0 0 0\n@2 client 1 0 put a y\n  arrival 2\n  kept append=1 head=1:3\n  ack 2 1 2 put a 1 1 0 0\n@3 client 1 0 get equal a\n  arrival 3\n  read 3 1 3 record a y 1 1 0 0 -\nhistory 0 3\n  0 1 0 pass\n  1 1 0 write 1\n  2 1 0 write 2\n";
+    assert_eq!(rt; bytes.as_slice(), wanted.as_slice());
+    Ok(())
+}
+
+#[test]
+fn the_first_line_alone(rt: HostRuntime) -> Result<(), Fail> {
+    let (ended, bytes) = replayed(rt.alloc(), b"solo 1", 1000, 1000)?;
+    assert_eq!(rt; ended, Ended::Done);
+    assert_eq!(rt; bytes.as_slice(), b"history 0 1\n  0 1 0 pass\n".as_slice());
+    Ok(())
+}
+
+#[test]
+fn bad_lines(rt: HostRuntime) -> Result<(), Fail> {
+    let cases: [(&[u8], u64, LineRule); 28] = [
+        (b"", 1, LineRule::First),
+        (b"\n", 1, LineRule::First),
+        (b"solo 2", 1, LineRule::Number),
+        (b"solo 01", 1, LineRule::Number),
+        (b"solo 1 8", 1, LineRule::First),
+        (b"cluster 1 1 1", 1, LineRule::First),
+        (b"solo  1", 1, LineRule::Bytes),
+        (b"solo 1\n\n", 2, LineRule::Word),
+        (b"solo 1\nclient 1  0 put a x\n", 2, LineRule::Bytes),
+        (b"solo 1\nclient 1 0 put a\tx\n", 2, LineRule::Bytes),
+        (b"solo 1\nclient 1 0 put a x\r\n", 2, LineRule::Bytes),
+        (b"solo 1\nclient 1 0 put a x \n", 2, LineRule::Bytes),
+        (b"solo 1\ntick 1 0 5", 2, LineRule::Word),
+        (b"solo 1\nclient x 0 frob", 2, LineRule::Word),
+        (b"solo 1\nclient 1 0 get floor a", 2, LineRule::Word),
+        (b"solo 1\nclient 1 0 get equal a b c", 2, LineRule::Word),
+        (b"solo 1\nclient 01 0 put a x", 2, LineRule::Number),
+        (
+            b"solo 1\nclient 1 18446744073709551616 put a x",
+            2,
+            LineRule::Number,
+        ),
+        (b"solo 1\nclient 2 0 put a x", 2, LineRule::Name),
+        (b"solo 1\nclient 0 0 put a x", 2, LineRule::Name),
+        (b"solo 1\nclient 1 1 put a x", 2, LineRule::Name),
+        (b"solo 1\nclient 1 0 put %41 %", 2, LineRule::Key),
+        (b"solo 1\nclient 1 0 put * x", 2, LineRule::Key),
+        (b"solo 1\nclient 1 0 get equal __oxia/a", 2, LineRule::Key),
+        (b"solo 1\nclient 1 0 put a % expect=1", 2, LineRule::Value),
+        (
+            b"solo 1\nclient 1 0 put a x expect=absent",
+            2,
+            LineRule::Option,
+        ),
+        (b"solo 1\nclient 1 0 get equal a by=x", 2, LineRule::Option),
+        (
+            b"solo 1\nclient 1 0 put longer-line x\nclient 1 0 get equal =",
+            3,
+            LineRule::Key,
+        ),
+    ];
+    for (text, line, rule) in cases {
+        let (ended, bytes) = replayed(rt.alloc(), text, 1000, 1000)?;
+        assert_eq!(rt; ended, Ended::BadLine { line, rule });
+        assert!(rt; bytes.is_empty());
+    }
+    Ok(())
+}
+
+/// A schedule of one put, with a key and a value of these lengths.
+fn one_put(alloc: Global, key: usize, value: usize) -> Result<Octets, NoMemory> {
+    let mut text = Octets::from_slice(alloc, b"solo 1\nclient 1 0 put ")?;
+    text.extend(vec![in alloc; b'k'; key]?.as_slice())?;
+    text.extend(b" ")?;
+    text.extend(vec![in alloc; b'v'; value]?.as_slice())?;
+    Ok(text)
+}
+
+#[test]
+fn keys_and_values_at_their_limits(rt: HostRuntime) -> Result<(), Fail> {
+    let cases: [(usize, usize, Ended); 3] = [
+        (4096, 1_048_576, Ended::WriteFault),
+        (
+            4097,
+            1,
+            Ended::BadLine {
+                line: 2,
+                rule: LineRule::Key,
+            },
+        ),
+        (
+            1,
+            1_048_577,
+            Ended::BadLine {
+                line: 2,
+                rule: LineRule::Value,
+            },
+        ),
+    ];
+    for (key, value, wanted) in cases {
+        let text = one_put(rt.alloc(), key, value)?;
+        let (ended, _) = replayed(rt.alloc(), text.as_slice(), 1000, 10)?;
+        assert_eq!(rt; ended, wanted);
+    }
+    Ok(())
+}
+
+#[test]
+fn a_read_that_fails_in_mid_stream(rt: HostRuntime) -> Result<(), Fail> {
+    let (ended, bytes) = replayed(rt.alloc(), b"solo 1\nclient 1 0 put a x\n", 1, 1000)?;
+    assert_eq!(rt; ended, Ended::ReadFault);
+    assert!(rt; bytes.is_empty());
+    Ok(())
+}
+
+#[test]
+fn a_write_that_fails_in_mid_stream(rt: HostRuntime) -> Result<(), Fail> {
+    let (ended, bytes) = replayed(rt.alloc(), b"solo 1\n", 1000, 9)?;
+    assert_eq!(rt; ended, Ended::WriteFault);
+    assert_eq!(rt; bytes.as_slice(), b"history 0".as_slice());
+    Ok(())
+}
+
+#[test]
+fn an_input_of_one_byte_too_many(rt: HostRuntime) -> Result<(), Fail> {
+    let rule = LineRule::Bytes;
+    let most = 67_108_864;
+    assert_eq!(rt;
+        ended(rt.alloc(), &[b"replay"], most)?,
+        Ended::BadLine { line: 1, rule }
+    );
+    assert_eq!(rt;
+        ended(rt.alloc(), &[b"replay"], most + 1)?,
+        Ended::InputTooLong
+    );
+    Ok(())
+}
