@@ -1,2 +1,4 @@
 pub mod Ended
 pub mod Key
+pub mod Order
+pub mod OrderLaws
