@@ -1,19 +1,18 @@
 -- A list that is cut where a test begins to fail.
-use Rattle.std.proofs.Common.{◌≡◌, ◌∙◌, ℕ, ◌+◌, ◌-◌, ◌<◌, ◌≤◌, Bool, true, false, List, [], ◌++◌, length, get_or, take, drop, filter, find, slice_get, refl, sym, ap, arith, inl, inr}
+use Rattle.std.proofs.Common.{◌≡◌, ◌∙◌, ℕ, ◌+◌, ◌-◌, ◌<◌, ◌≤◌, Bool, true, false, List, length, get_or, take, drop, filter, find, slice_get, refl, sym, ap, arith, inl, inr}
 use Rattle.std.specs.Prelude.{not, ◌&&◌}
 use Rattle.std.specs.List.{AllWithin}
 use Rattle.std.specs.Ordering.{is_lt, is_le, is_ge, is_gt, ordering_reverse}
 use Rattle.std.specs.declared.cmp.Ordering.{Ordering}
 use Rattle.std.specs.declared.cmp.Ordering.TheVariants.{Less, Equal, Greater}
 use Rattle.std.proofs.lemmas.Bool.{cases_lt}
-use Rattle.std.proofs.lemmas.List.{take_all}
 use Rattle.ox_types.specs.Order.{key_cmp}
 use Rattle.ox_types.specs.OrderLaws.{key_total}
 use Rattle.ox_order.specs.Range.{is_from, is_up_to, in_range}
 use Rattle.ox_order.specs.declared.range.KeyRange.{KeyRange}
 use Rattle.ox_table.specs.Table.{Pairs}
 use Rattle.ox_table.specs.Place.{IsCut, IsRunOf}
-use Rattle.ox_table.proofs.Filters.{filter_all, filter_none, filter_run, filter_sides, filter_front, filter_back, find_first}
+use Rattle.ox_table.proofs.Filters.{filter_none, filter_run, filter_sides, filter_front, filter_back, find_first}
 
 module _ {X : Type 0} {xs : List X} {n : ℕ} (t : X → Bool) (h : IsCut t xs n) where
   pub cut_front : filter t xs ≡ take n xs

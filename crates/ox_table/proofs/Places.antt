@@ -1,5 +1,5 @@
 -- The pairs on each side of a place.
-use Rattle.std.proofs.Common.{◌≡◌, ◌∙◌, ℕ, ◌+◌, ◌-◌, ◌<◌, ◌≤◌, Bool, List, [], ◌++◌, length, get_or, set, ◌∷◌, add-one, take, drop, filter, find, Some, None, refl, sym, ap, arith, inl, inr}
+use Rattle.std.proofs.Common.{◌≡◌, ◌∙◌, ℕ, ◌+◌, ◌<◌, ◌≤◌, Bool, List, ◌++◌, length, get_or, set, add-one, take, drop, filter, find, Some, None, refl, sym, ap, arith, inl, inr}
 use Rattle.std.specs.List.{AllWithin, insert, remove}
 use Rattle.std.proofs.lemmas.List.{set_split}
 use Rattle.std.specs.Option.{option_map}
@@ -11,7 +11,7 @@ use Rattle.ox_types.specs.Order.{key_cmp}
 use Rattle.ox_types.specs.OrderLaws.{key_anti}
 use Rattle.ox_table.specs.Table.{Pairs, table_get, inserted, removed}
 use Rattle.ox_table.specs.Place.{IsPlaceOf, IsGapFor}
-use Rattle.ox_table.proofs.Filters.{filter_all, filter_none, filter_run, filter_sides, filter_front, filter_back, find_place, find_nowhere}
+use Rattle.ox_table.proofs.Filters.{filter_all, filter_sides, filter_front, filter_back, find_place, find_nowhere}
 
 module _ {V : Type 0} {pairs : Pairs V} {key : List ℕ} {place : ℕ} (h : IsPlaceOf pairs key place) where
   -- a test of the comparison with the key, on each side of the place

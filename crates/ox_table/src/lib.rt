@@ -2,10 +2,18 @@
 #![tactic(auto)]
 
 mod ends;
+mod laws;
 mod place;
 mod run;
 mod table;
 mod table_range;
 
+pub use laws::{
+    edits_change_one_key, edits_keep_the_order, ranges_choose_their_keys, tables_are_cut_at_a_key,
+    tables_are_told_by_their_values,
+};
 pub use table::Table;
 pub use table_range::TableRange;
+
+#[cfg(test)]
+mod tests;
