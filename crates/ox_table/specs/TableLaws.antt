@@ -1,5 +1,5 @@
 -- What follows for pairs in rising order of keys.
-use Rattle.std.proofs.Common.{◌≡◌, ◌≢◌, ◌∙◌, ℕ, Bool, true, false, List, [], ◌∷◌, ◌++◌, Option, Some, None, filter, find, option_to_list, refl, sym, ap, inl, inr}
+use Rattle.std.proofs.Common.{◌≡◌, ◌≢◌, ◌∙◌, ℕ, ◌+◌, Bool, true, false, List, [], ◌∷◌, ◌++◌, Option, Some, None, filter, find, sum_by, option_to_list, refl, sym, ap, arith, inl, inr}
 use Rattle.std.specs.Prelude.{not, if◌then◌else◌}
 use Rattle.std.specs.Option.{option_map, option_or}
 use Rattle.std.specs.Ordering.{is_lt, is_eq, is_ne, is_gt}
@@ -8,6 +8,8 @@ use Rattle.std.specs.declared.cmp.Ordering.{Ordering}
 use Rattle.std.specs.declared.cmp.Ordering.TheVariants.{Less, Equal, Greater}
 use Rattle.std.proofs.lemmas.Bool.{cases_Bool}
 use Rattle.std.proofs.lemmas.List.Folds.{find-append}
+use Rattle.std.proofs.lemmas.List.Sums.{sum_by-append, sum_by-cons}
+use Rattle.std.proofs.lemmas.List.Filters.{sum_by-filter_both}
 use Rattle.ox_types.specs.Order.{key_cmp, IsBefore}
 use Rattle.ox_types.specs.OrderLaws.{key_total, key_anti, key_turned}
 use Rattle.ox_order.specs.Range.{in_range}
@@ -303,3 +305,28 @@ module _ {V : Type 0} where
   same_pairs [] (y ∷ ys) a b h = cc (h y.0 ∙ get_first y ys)
   same_pairs (x ∷ xs) [] a b h = cc (sym (h x.0) ∙ get_first x xs)
   same_pairs (x ∷ xs) (y ∷ ys) a b h = same_firsts x y xs ys (key_cmp x.0 y.0) refl a b h (same_pairs xs ys a.1 b.1)
+
+-- ---- sums over the pairs
+
+module _ {V : Type 0} (f : List ℕ × V → ℕ) where
+  -- an insertion adds the new pair, and drops the one that had its key
+  pub sum_by-inserted : (pairs : Pairs V) (key : List ℕ) (value : V) → IsRising pairs
+      → sum_by f (inserted pairs key value) + sum_by f (having key pairs) ≡ sum_by f pairs + f (key, value)
+  sum_by-inserted pairs key value h =
+      let new = sum_by-append f (below key pairs) ((key, value) ∷ above key pairs) in
+      let one = sum_by-cons f (key, value) (above key pairs) in
+      let low = sum_by-append f (below key pairs) (having key pairs) in
+      let old = ap (sum_by f) (split-pairs pairs key h) ∙ sum_by-append f (below key pairs ++ having key pairs) (above key pairs) in
+      omega arith
+
+  -- a removal drops the pair that had the key
+  pub sum_by-removed : (pairs : Pairs V) (key : List ℕ) → IsRising pairs → sum_by f (removed pairs key) + sum_by f (having key pairs) ≡ sum_by f pairs
+  sum_by-removed pairs key h =
+      let new = ap (sum_by f) (removed-pairs pairs key h) ∙ sum_by-append f (below key pairs) (above key pairs) in
+      let low = sum_by-append f (below key pairs) (having key pairs) in
+      let old = ap (sum_by f) (split-pairs pairs key h) ∙ sum_by-append f (below key pairs ++ having key pairs) (above key pairs) in
+      omega arith
+
+  -- a range and the others share the sum
+  pub sum_by-within : (range : KeyRange) (pairs : Pairs V) → sum_by f (within range pairs) + sum_by f (without range pairs) ≡ sum_by f pairs
+  sum_by-within range pairs = sum_by-filter_both (λ p. in_range range p.0) (λ p. not (in_range range p.0)) (λ p. refl) f pairs

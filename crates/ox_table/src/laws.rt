@@ -1,4 +1,4 @@
-ghost use Rattle.std.specs.Prelude.{◌≡◌, ◌≢◌, ◌++◌, ℕ, List, Some, None, option_to_list, if◌then◌else◌};
+ghost use Rattle.std.specs.Prelude.{◌≡◌, ◌≢◌, ◌+◌, ◌++◌, ℕ, List, Some, None, sum_by, option_to_list, if◌then◌else◌};
 ghost use Rattle.std.specs.Option.{option_map};
 ghost use Rattle.ox_order.specs.Range.{in_range};
 ghost use Rattle.ox_order.specs.declared.range.KeyRange.{KeyRange};
@@ -36,4 +36,11 @@ pub fn edits_keep_the_order<V>()
 /// Two tables that have the same value at each key are the same list of pairs.
 pub fn tables_are_told_by_their_values<V>()
     ensures { (xs ys : Pairs V) → IsRising xs → IsRising ys → ((q : List ℕ) → table_get xs q ≡ table_get ys q) → xs ≡ ys }
+{}
+
+/// What an edit does to a sum over the pairs, as to the weight of all of them.
+pub fn edits_move_sums<V>()
+    ensures inserted { (f : List ℕ × V → ℕ) (pairs : Pairs V) (key : List ℕ) (value : V) → IsRising pairs → sum_by f (inserted pairs key value) + sum_by f (having key pairs) ≡ sum_by f pairs + f (key, value) }
+    ensures removed { (f : List ℕ × V → ℕ) (pairs : Pairs V) (key : List ℕ) → IsRising pairs → sum_by f (removed pairs key) + sum_by f (having key pairs) ≡ sum_by f pairs }
+    ensures within { (f : List ℕ × V → ℕ) (range : KeyRange) (pairs : Pairs V) → sum_by f (within range pairs) + sum_by f (without range pairs) ≡ sum_by f pairs }
 {}

@@ -89,7 +89,7 @@ impl<V> Table<V> {
         first(&pairs[count_up_to(pairs, key)..])
     }
 
-    /// The pairs of the range in the order of keys, at the cost of two binary searches.
+    /// The pairs of the range in the order of keys, at the cost of two binary searches and of the pairs that are then taken.
     pub fn range(&self, range: &KeyRange) -> TableRange<'_, V>
         ensures pairs { result ≡ within range.now self.now }
         ensures rising { IsRising self.now }
