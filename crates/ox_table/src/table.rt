@@ -103,6 +103,7 @@ impl<V> Table<V> {
     pub fn remove(&mut self, key: &Key) -> Option<V>
         ensures value { result ≡ table_get self.old key.now }
         ensures after { self.new ≡ removed self.old key.now }
+        ensures was_rising { IsRising self.old }
         ensures rising { IsRising self.new }
     {
         match place_of(&self.pairs, key) {
@@ -120,6 +121,7 @@ impl<V: Drop> Table<V> {
         ensures ok { OnOk result (self.new ≡ inserted self.old key value) }
         ensures err { OnErr result (self.new ≡ self.old) }
         ensures absent { OnErr result (table_get self.old key ≡ None) }
+        ensures was_rising { IsRising self.old }
         ensures rising { IsRising self.new }
     {
         match place_of(&self.pairs, &key) {
@@ -137,6 +139,7 @@ impl<V: Drop> Table<V> {
         ensures taken { IfOk result (λ taken. taken ≡ within range.now self.old) }
         ensures ok { OnOk result (self.new ≡ without range.now self.old) }
         ensures err { OnErr result (self.new ≡ self.old) }
+        ensures was_rising { IsRising self.old }
         ensures rising { IsRising self.new }
     {
         let (start, end) = run_of(&self.pairs, range);
