@@ -107,6 +107,11 @@ choice tag_of forms = record {
   at = choice_at forms;
 }
 
--- a whole value takes all its bytes
+-- no byte is left
+abbrev pub at_end : List ℕ → Result (Unit {0}) BadField
+at_end [] = Ok tt
+at_end (b ∷ rest) = Err (bad Rest (b ∷ rest))
+
+-- the value that bytes are, all of them
 unfoldable pub whole_of : {A : Type 0} → Form A → List ℕ → Result A BadField
-whole_of form bytes = form.at bytes >>= λ x. if length x.1 == 0 then Ok x.0 else Err (bad Rest x.1)
+whole_of form bytes = form.at bytes >>= λ x. at_end x.1 >>= λ _. Ok x.0

@@ -27,6 +27,11 @@ abbrev pub Gives : {A : Type 0} → Result A FieldFault → List ℕ → Result 
 Gives (Ok x) rest read = read ≡ Ok (x, rest)
 Gives (Err e) rest read = Fails e read
 
+-- the same, seen by view
+abbrev pub GivesBy : {X A : Type 0} → (X → A) → Result X FieldFault → List ℕ → Result (A × List ℕ) BadField → Type 0
+GivesBy view (Ok x) rest read = read ≡ Ok (view x, rest)
+GivesBy view (Err e) rest read = Fails e read
+
 -- the same of what is told with no bytes left over
 abbrev pub Tells : {A : Type 0} → Result A FieldFault → Result A BadField → Type 0
 Tells (Ok x) read = read ≡ Ok x

@@ -1,8 +1,9 @@
 ghost use Rattle.std.specs.Prelude.{◌≡◌, ◌++◌, ◌∷◌, ◌<◌, ◌^◌, [], length, OnOk, OnErr};
 ghost use Rattle.ox_bytes.specs.Numbers.{be32, be64};
+ghost use Rattle.ox_bytes.specs.Fields.{bool as bool_form, octets as octets_form, key as key_form, value as value_form};
 
 use byteorder::{BigEndian, ByteOrder};
-use ox_types::{NoMemory, Octets};
+use ox_types::{Key, NoMemory, Octets, Value};
 use std::alloc::Global;
 use std::marker::Model;
 
@@ -69,6 +70,54 @@ impl Writer {
     {
         self.bytes.extend_from_slice(bytes)?;
         Ok(())
+    }
+
+    /// The byte 0 or 1.
+    pub fn put_bool(&mut self, is: bool) -> Result<(), NoMemory>
+        ensures ok { OnOk result (self.new ≡ self.old ++ bool_form.text is) }
+        ensures err { OnErr result (self.new ≡ self.old) }
+    {
+        self.put_u8(if is { 1 } else { 0 })
+    }
+
+    /// The length of these bytes, and the bytes.
+    pub fn put_sized(&mut self, bytes: &[u8]) -> Result<(), NoMemory>
+        requires { length bytes.now < 2 ^ 32 }
+        ensures ok { OnOk result (self.new ≡ self.old ++ octets_form.text bytes.now) }
+        ensures err { OnErr result (self.new ≡ self.old) }
+    {
+        let start = self.bytes.len();
+        self.put_u32(bytes.len() as u32)?;
+        let put = self.put_bytes(bytes);
+        if put.is_err() {
+            self.bytes.truncate(start);
+        }
+        put
+    }
+
+    /// Their number, and the bytes.
+    pub fn put_octets(&mut self, octets: &Octets) -> Result<(), NoMemory>
+        requires { length octets.now < 2 ^ 32 }
+        ensures ok { OnOk result (self.new ≡ self.old ++ octets_form.text octets.now) }
+        ensures err { OnErr result (self.new ≡ self.old) }
+    {
+        self.put_sized(octets.as_slice())
+    }
+
+    /// The length of the key, and its bytes.
+    pub fn put_key(&mut self, key: &Key) -> Result<(), NoMemory>
+        ensures ok { OnOk result (self.new ≡ self.old ++ key_form.text key.now) }
+        ensures err { OnErr result (self.new ≡ self.old) }
+    {
+        self.put_sized(key.bytes())
+    }
+
+    /// The length of the value, and its bytes.
+    pub fn put_value(&mut self, value: &Value) -> Result<(), NoMemory>
+        ensures ok { OnOk result (self.new ≡ self.old ++ value_form.text value.now) }
+        ensures err { OnErr result (self.new ≡ self.old) }
+    {
+        self.put_sized(value.bytes())
     }
 
     /// All that was written.
