@@ -2,9 +2,11 @@
 #![tactic(auto)]
 
 mod fault;
+mod field;
 mod reader;
 mod writer;
 
 pub use fault::{BadField, FieldFault, WireRule};
+pub use field::Field;
 pub use reader::{Reader, Short};
 pub use writer::Writer;
