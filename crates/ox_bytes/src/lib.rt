@@ -3,10 +3,13 @@
 
 mod fault;
 mod field;
+mod lists;
 mod reader;
+mod whole;
 mod writer;
 
 pub use fault::{BadField, FieldFault, WireRule};
 pub use field::Field;
 pub use reader::{Reader, Short};
+pub use whole::{decode, encode};
 pub use writer::Writer;
