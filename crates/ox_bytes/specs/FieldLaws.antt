@@ -150,7 +150,7 @@ choice_exact {A} tag_of forms are = record { again = again; spelled = spelled }
     again x rest h =
         let lt = variant_within forms (tag_of x) x h in
         let v = variant_at_exact tag_of 0 forms (tag_of x) are lt in
-        rw (lt-ltb (tag_of x) (length forms) lt) (v.0.again x rest h)
+        rw (lt-ltb (tag_of x) (length forms) lt) (v.exact.again x rest h)
 
     spelled : (bytes : List ℕ) (x : A) (rest : List ℕ) → IsBytes bytes → choice_at forms bytes ≡ Ok (x, rest) → (bytes ≡ (tag_of x ∷ (variant_at forms (tag_of x)).text x) ++ rest) × ((choice tag_of forms).is_lawful x ≡ true)
     spelled bytes x rest fits e =
@@ -158,8 +158,8 @@ choice_exact {A} tag_of forms are = record { again = again; spelled = spelled }
         let s = (tag_exact (length forms)).spelled bytes t.0.0 t.0.1 fits t.1 in
         let lt = ltb-true _ _ (and_parts (ltb t.0.0 256) (ltb t.0.0 (length forms)) s.1).1 in
         let v = variant_at_exact tag_of 0 forms t.0.0 are lt in
-        let w = v.0.spelled t.0.1 x rest (IsBytes-rest bytes (t.0.0 ∷ []) t.0.1 fits s.0) t.2 in
-        let is : t.0.0 ≡ tag_of x = sym (v.1 x w.1 ∙ omega arith) in
+        let w = v.exact.spelled t.0.1 x rest (IsBytes-rest bytes (t.0.0 ∷ []) t.0.1 fits s.0) t.2 in
+        let is : t.0.0 ≡ tag_of x = sym (v.tagged x w.1 ∙ omega arith) in
         subst (λ (k : ℕ). (bytes ≡ (k ∷ (variant_at forms k).text x) ++ rest) × ((variant_at forms k).is_lawful x ≡ true)) is (s.0 ∙ ap (λ (l : List ℕ). t.0.0 ∷ l) w.0, w.1)
 
 -- ---- all the bytes

@@ -77,17 +77,30 @@ variant_exact {A} {B} made parts form there back exact = record { again = λ x r
         subst (λ (q : Read B). (bytes ≡ text_within form (parts q.0) ++ q.1) × (lawful_within form (parts q.0) ≡ true)) (ok_is (made a.0.0, a.0.1) (x, rest) a.2)
         (s.0 ∙ ap (λ (o : Option A). text_within form o ++ a.0.1) (sym (back a.0.0)), ap (lawful_within form) (back a.0.0) ∙ s.1)
 
--- each form of the list is exact, and its values are those of the variant with its byte, from k on
-abbrev pub AreVariants : {A : Type 0} → (A → ℕ) → ℕ → List (Form A) → Type 0
-AreVariants tag_of k [] = Unit {0}
-AreVariants {A} tag_of k (form ∷ forms) = IsExact form × ((x : A) → form.is_lawful x ≡ true → tag_of x ≡ k) × AreVariants tag_of (suc k) forms
+-- the form is exact, and its values are those of the variant with this byte
+pub record IsVariant {A : Type 0} (tag_of : A → ℕ) (byte : ℕ) (form : Form A) : Type 0 where
+  pub exact : IsExact form
+  pub tagged : (x : A) → form.is_lawful x ≡ true → tag_of x ≡ byte
 
-pub variant_at_exact : {A : Type 0} (tag_of : A → ℕ) (k : ℕ) (forms : List (Form A)) (n : ℕ) → AreVariants tag_of k forms → n < length forms → IsExact (variant_at forms n) × ((x : A) → (variant_at forms n).is_lawful x ≡ true → tag_of x ≡ k + n)
-variant_at_exact tag_of k [] n are lt = absurd (omega arith)
-variant_at_exact tag_of k (form ∷ forms) zero are lt = (are.0, λ x h. are.1 x h ∙ omega arith)
-variant_at_exact tag_of k (form ∷ forms) (suc n) are lt =
-    let rest = variant_at_exact tag_of (suc k) forms n are.2 (omega arith) in
-    (rest.0, λ x h. rest.1 x h ∙ omega arith)
+-- the forms of the list are those of the variants from this byte on
+abbrev pub AreVariants : {A : Type 0} → (A → ℕ) → ℕ → List (Form A) → Type 0
+AreVariants tag_of byte [] = Unit {0}
+AreVariants tag_of byte (form ∷ forms) = IsVariant tag_of byte form × AreVariants tag_of (suc byte) forms
+
+pub is_variant : {A B : Type 0} (tag_of : B → ℕ) (byte : ℕ) (made : A → B) (parts : B → Option A) (form : Form A) → ((x : B) (a : A) → parts x ≡ Some a → made a ≡ x) → ((a : A) → parts (made a) ≡ Some a)
+    → ((a : A) → tag_of (made a) ≡ byte) → IsExact form → IsVariant tag_of byte (variant made parts form)
+is_variant {A} {B} tag_of byte made parts form there back tagged exact = record { exact = variant_exact made parts form there back exact; tagged = λ x h. by_parts x (parts x) refl h }
+  where
+    by_parts : (x : B) (o : Option A) → parts x ≡ o → lawful_within form o ≡ true → tag_of x ≡ byte
+    by_parts x None is h = absurd cc
+    by_parts x (Some a) is h = ap tag_of (sym (there x a is)) ∙ tagged a
+
+pub variant_at_exact : {A : Type 0} (tag_of : A → ℕ) (byte : ℕ) (forms : List (Form A)) (n : ℕ) → AreVariants tag_of byte forms → n < length forms → IsVariant tag_of (byte + n) (variant_at forms n)
+variant_at_exact tag_of byte [] n are lt = absurd (omega arith)
+variant_at_exact tag_of byte (form ∷ forms) zero are lt = record { exact = are.0.exact; tagged = λ x h. are.0.tagged x h ∙ omega arith }
+variant_at_exact tag_of byte (form ∷ forms) (suc n) are lt =
+    let rest = variant_at_exact tag_of (suc byte) forms n are.1 (omega arith) in
+    record { exact = rest.exact; tagged = λ x h. rest.tagged x h ∙ omega arith }
 
 -- no value has a byte outside the table
 pub variant_within : {A : Type 0} (forms : List (Form A)) (n : ℕ) (x : A) → (variant_at forms n).is_lawful x ≡ true → n < length forms

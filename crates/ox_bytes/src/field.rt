@@ -32,7 +32,9 @@ impl Field for u8 {
 
     ghost exact = { number8_exact };
 
-    fn put(&self, to: &mut Writer) -> Result<(), NoMemory> {
+    fn put(&self, to: &mut Writer) -> Result<(), NoMemory>
+        ensures { OnOk result (to.new ≡ to.old ++ number8.text self.now) }
+    {
         to.put_u8(*self)
     }
 
@@ -49,7 +51,9 @@ impl Field for u32 {
 
     ghost exact = { number32_exact };
 
-    fn put(&self, to: &mut Writer) -> Result<(), NoMemory> {
+    fn put(&self, to: &mut Writer) -> Result<(), NoMemory>
+        ensures { OnOk result (to.new ≡ to.old ++ number32.text self.now) }
+    {
         to.put_u32(*self)
     }
 
@@ -66,7 +70,9 @@ impl Field for u64 {
 
     ghost exact = { number64_exact };
 
-    fn put(&self, to: &mut Writer) -> Result<(), NoMemory> {
+    fn put(&self, to: &mut Writer) -> Result<(), NoMemory>
+        ensures { OnOk result (to.new ≡ to.old ++ number64.text self.now) }
+    {
         to.put_u64(*self)
     }
 
@@ -83,7 +89,9 @@ impl Field for bool {
 
     ghost exact = { bool_exact };
 
-    fn put(&self, to: &mut Writer) -> Result<(), NoMemory> {
+    fn put(&self, to: &mut Writer) -> Result<(), NoMemory>
+        ensures { OnOk result (to.new ≡ to.old ++ bool_form.text self.now) }
+    {
         to.put_bool(*self)
     }
 
@@ -117,7 +125,9 @@ impl Field for Key {
 
     ghost exact = { key_exact };
 
-    fn put(&self, to: &mut Writer) -> Result<(), NoMemory> {
+    fn put(&self, to: &mut Writer) -> Result<(), NoMemory>
+        ensures { OnOk result (to.new ≡ to.old ++ key.text self.now) }
+    {
         to.put_key(self)
     }
 
@@ -134,7 +144,9 @@ impl Field for Value {
 
     ghost exact = { value_exact };
 
-    fn put(&self, to: &mut Writer) -> Result<(), NoMemory> {
+    fn put(&self, to: &mut Writer) -> Result<(), NoMemory>
+        ensures { OnOk result (to.new ≡ to.old ++ value.text self.now) }
+    {
         to.put_value(self)
     }
 
