@@ -1,13 +1,12 @@
-// A library with one function.
+//! A stream of bytes in any pieces is these frames and no others.
 #![tactic(auto)]
 
-ghost use Rattle.std.specs.Prelude.{◌≡◌};
-ghost use Rattle.ox_frame.specs.Echo.{echo_of};
+mod decoder;
+mod fault;
+mod law;
+mod text;
 
-// The `ensures` clause is the contract: what `echo` returns is `echo_of` of its argument, a definition
-// in `specs/Echo.antt`, which a caller's clause can cite too.
-pub fn echo(x: usize) -> usize
-    ensures { result ≡ echo_of x }
-{
-    x
-}
+pub use decoder::Decoder;
+pub use fault::{FrameFault, NextFault};
+pub use law::law_any_cutting;
+pub use text::{FRAME_LIMIT, frame};
