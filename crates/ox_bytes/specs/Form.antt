@@ -38,6 +38,14 @@ pair first second = record {
   at = λ bytes. first.at bytes >>= λ a. second.at a.1 >>= λ b. Ok ((a.0, b.0), b.1);
 }
 
+-- one field and then another, whose form may depend on the first
+abbrev pub pair_by : {A B : Type 0} → Form A → (A → Form B) → Form (A × B)
+pair_by first second = record {
+  text = λ x. first.text x.0 ++ (second x.0).text x.1;
+  is_lawful = λ x. first.is_lawful x.0 && (second x.0).is_lawful x.1;
+  at = λ bytes. first.at bytes >>= λ a. (second a.0).at a.1 >>= λ b. Ok ((a.0, b.0), b.1);
+}
+
 -- a struct whose fields, as pairs, have a form
 abbrev pub struct_of : {A B : Type 0} → (A → B) → (B → A) → Form A → Form B
 struct_of made parts form = record {

@@ -6,7 +6,7 @@ use Rattle.ox_bytes.specs.declared.fault.BadField.{BadField}
 use Rattle.ox_bytes.specs.declared.fault.WireRule.{WireRule}
 use Rattle.ox_bytes.specs.declared.fault.WireRule.TheVariants.{Tag}
 use Rattle.ox_bytes.specs.Reading.{◌>>=◌, bad}
-use Rattle.ox_bytes.specs.Form.{Form, IsBytes, IsExact, checked, pair, struct_of, empty, text_within, lawful_within, variant, no_variant, variant_at}
+use Rattle.ox_bytes.specs.Form.{Form, IsBytes, IsExact, checked, pair, pair_by, struct_of, empty, text_within, lawful_within, variant, no_variant, variant_at}
 use Rattle.ox_bytes.specs.NumberLaws.{IsBytes-rest, bind_ok, pass_ok, ok_is}
 
 -- what a form reads
@@ -46,6 +46,25 @@ pair_exact {A} {B} first second one two = record { again = again; spelled = spel
         let made : Read (A × B) = ((a.0.0, b.0.0), b.0.1) in
         subst (λ (p : Read (A × B)). (bytes ≡ (first.text p.0.0 ++ second.text p.0.1) ++ p.1) × (first.is_lawful p.0.0 && second.is_lawful p.0.1 ≡ true)) (ok_is made (x, rest) b.2)
         (s.0 ∙ ap (λ (l : List ℕ). first.text a.0.0 ++ l) t.0 ∙ sym (append_assoc (first.text a.0.0) (second.text b.0.0) b.0.1), and_from _ _ s.1 t.1)
+
+pub pair_by_exact : {A B : Type 0} (first : Form A) (second : A → Form B) → IsExact first → ((a : A) → IsExact (second a)) → IsExact (pair_by first second)
+pair_by_exact {A} {B} first second one two = record { again = again; spelled = spelled }
+  where
+    again : (x : A × B) (rest : List ℕ) → first.is_lawful x.0 && (second x.0).is_lawful x.1 ≡ true → (pair_by first second).at ((first.text x.0 ++ (second x.0).text x.1) ++ rest) ≡ Ok (x, rest)
+    again x rest h =
+        let both = and_parts (first.is_lawful x.0) ((second x.0).is_lawful x.1) h in
+        ap (pair_by first second).at (append_assoc (first.text x.0) ((second x.0).text x.1) rest)
+        ∙ rw (one.again x.0 ((second x.0).text x.1 ++ rest) both.0, (two x.0).again x.1 rest both.1) refl
+
+    spelled : (bytes : List ℕ) (x : A × B) (rest : List ℕ) → IsBytes bytes → (pair_by first second).at bytes ≡ Ok (x, rest) → (bytes ≡ (first.text x.0 ++ (second x.0).text x.1) ++ rest) × (first.is_lawful x.0 && (second x.0).is_lawful x.1 ≡ true)
+    spelled bytes x rest fits e =
+        let a = bind_ok (first.at bytes) (λ a. (second a.0).at a.1 >>= λ b. Ok ((a.0, b.0), b.1)) (x, rest) e in
+        let b = bind_ok ((second a.0.0).at a.0.1) (λ b. Ok ((a.0.0, b.0), b.1)) (x, rest) a.2 in
+        let s = one.spelled bytes a.0.0 a.0.1 fits a.1 in
+        let t = (two a.0.0).spelled a.0.1 b.0.0 b.0.1 (IsBytes-rest bytes (first.text a.0.0) a.0.1 fits s.0) b.1 in
+        let made : Read (A × B) = ((a.0.0, b.0.0), b.0.1) in
+        subst (λ (p : Read (A × B)). (bytes ≡ (first.text p.0.0 ++ (second p.0.0).text p.0.1) ++ p.1) × (first.is_lawful p.0.0 && (second p.0.0).is_lawful p.0.1 ≡ true)) (ok_is made (x, rest) b.2)
+        (s.0 ∙ ap (λ (l : List ℕ). first.text a.0.0 ++ l) t.0 ∙ sym (append_assoc (first.text a.0.0) ((second a.0.0).text b.0.0) b.0.1), and_from _ _ s.1 t.1)
 
 pub struct_exact : {A B : Type 0} (made : A → B) (parts : B → A) (form : Form A) → ((x : B) → made (parts x) ≡ x) → ((a : A) → parts (made a) ≡ a) → IsExact form → IsExact (struct_of made parts form)
 struct_exact {A} {B} made parts form there back exact = record { again = again; spelled = spelled }

@@ -3,6 +3,7 @@
 
 mod fault;
 mod field;
+mod law;
 mod lists;
 mod reader;
 mod whole;
@@ -10,6 +11,7 @@ mod writer;
 
 pub use fault::{BadField, FieldFault, WireRule};
 pub use field::Field;
+pub use law::{law_list_by, law_pair_by};
 pub use reader::{Reader, Short};
 pub use whole::{decode, encode};
 pub use writer::Writer;
