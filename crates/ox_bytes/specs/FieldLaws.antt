@@ -138,9 +138,10 @@ list_exact {A} form exact = record { again = again; spelled = spelled }
     spelled bytes xs rest fits e =
         let n = bind_ok (u32_at bytes) (λ n. items_at form n.0 n.1) (xs, rest) e in
         let s = number32_exact.spelled bytes n.0.0 n.0.1 fits n.1 in
-        let t = items_spelled form exact n.0.0 n.0.1 xs rest (IsBytes-rest bytes (be32 n.0.0) n.0.1 fits s.0) n.2 in
-        (s.0 ∙ ap (λ (l : List ℕ). be32 n.0.0 ++ l) t.0 ∙ ap (λ (k : ℕ). be32 k ++ (flat_map form.text xs ++ rest)) (sym t.1) ∙ sym (append_assoc (be32 (length xs)) (flat_map form.text xs) rest),
-         and_from _ _ (ap (λ (k : ℕ). ltb k (2 ^ 32)) t.1 ∙ s.1) t.2)
+        let t = items_spelled form exact n.0.0 n.0.1 xs rest (IsBytes-rest bytes (be32 n.0.0) n.0.1 fits s.0) n.2 in (
+          s.0 ∙ ap (λ (l : List ℕ). be32 n.0.0 ++ l) t.0 ∙ ap (λ (k : ℕ). be32 k ++ (flat_map form.text xs ++ rest)) (sym t.1) ∙ sym (append_assoc (be32 (length xs)) (flat_map form.text xs) rest),
+          and_from _ _ (ap (λ (k : ℕ). ltb k (2 ^ 32)) t.1 ∙ s.1) t.2,
+        )
 
 pub choice_exact : {A : Type 0} (tag_of : A → ℕ) (forms : List (Form A)) → AreVariants tag_of 0 forms → IsExact (choice tag_of forms)
 unfolding choice_at u8_at

@@ -52,6 +52,8 @@ module _ {S A : Type 0} (course : Course S A) (exact : (s : S) → IsExact (cour
       spelled bytes xs rest fits e =
           let n = bind_ok (count.at bytes) (λ n. course_at course n.0 s n.1) (xs, rest) e in
           let first = counted.spelled bytes n.0.0 n.0.1 fits n.1 in
-          let others = course_spelled n.0.0 s n.0.1 xs rest (IsBytes-rest bytes (count.text n.0.0) n.0.1 fits first.0) n.2 in
-          (first.0 ∙ ap (λ (l : List ℕ). count.text n.0.0 ++ l) others.0 ∙ ap (λ (k : ℕ). count.text k ++ (course_text course s xs ++ rest)) (sym others.1)
-          ∙ sym (append_assoc (count.text (length xs)) (course_text course s xs) rest), and_from _ _ (ap count.is_lawful others.1 ∙ first.1) others.2)
+          let others = course_spelled n.0.0 s n.0.1 xs rest (IsBytes-rest bytes (count.text n.0.0) n.0.1 fits first.0) n.2 in (
+            first.0 ∙ ap (λ (l : List ℕ). count.text n.0.0 ++ l) others.0 ∙ ap (λ (k : ℕ). count.text k ++ (course_text course s xs ++ rest)) (sym others.1)
+                ∙ sym (append_assoc (count.text (length xs)) (course_text course s xs) rest),
+            and_from _ _ (ap count.is_lawful others.1 ∙ first.1) others.2,
+          )

@@ -15,3 +15,6 @@ pub use law::{law_list_by, law_pair_by};
 pub use reader::{Reader, Short};
 pub use whole::{decode, encode};
 pub use writer::Writer;
+
+#[cfg(test)]
+mod tests;
