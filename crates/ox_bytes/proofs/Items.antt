@@ -6,17 +6,10 @@ use Rattle.std.proofs.lemmas.List.{append-nil}
 use Rattle.ox_bytes.specs.declared.fault.BadField.{BadField}
 use Rattle.ox_bytes.specs.declared.fault.FieldFault.{FieldFault}
 use Rattle.ox_bytes.specs.declared.fault.FieldFault.TheVariants as fault
-use Rattle.ox_bytes.specs.Reading.{◌>>=◌, Fails}
+use Rattle.ox_bytes.specs.Reading.{Fails}
 use Rattle.ox_bytes.specs.Form.{Form}
 use Rattle.ox_bytes.specs.Fields.{items_at}
-
--- what was read before, and what is still read
-abbrev pub with_front : {A : Type 0} → List A → Result (List A × List ℕ) BadField → Result (List A × List ℕ) BadField
-with_front front read = read >>= λ x. Ok (front ++ x.0, x.1)
-
-regroup : {A : Type 0} (front : List A) (x : A) (read : Result (List A × List ℕ) BadField) → with_front front (read >>= λ xs. Ok (x ∷ xs.0, xs.1)) ≡ with_front (front ++ x ∷ []) read
-regroup {A} front x (Ok xs) = ap (λ (ys : List A). Ok (ys, xs.1)) (simp append_assoc)
-regroup front x (Err f) = refl
+use Rattle.ox_bytes.specs.ListLaws.{with_front, with_front-next}
 
 module _ {A : Type 0} (form : Form A) where
   pub goes_on : (front : List A) (count i : ℕ) (bytes : List ℕ) (x : A) (after : List ℕ) (total : Result (List A × List ℕ) BadField) → i < count → form.at bytes ≡ Ok (x, after)
@@ -24,7 +17,7 @@ module _ {A : Type 0} (form : Form A) where
   unfolding items_at
   goes_on front count i bytes x after total lt h so_far =
       let k : count - i ≡ suc (count - (i + 1)) = omega arith in
-      let one : with_front front (items_at form (count - i) bytes) ≡ with_front (front ++ x ∷ []) (items_at form (count - (i + 1)) after) = rw (k, h) (regroup front x (items_at form (count - (i + 1)) after)) in
+      let one : with_front front (items_at form (count - i) bytes) ≡ with_front (front ++ x ∷ []) (items_at form (count - (i + 1)) after) = rw (k, h) (with_front-next front x (items_at form (count - (i + 1)) after)) in
       sym one ∙ so_far
 
   pub ends : (e : FieldFault) (front : List A) (count i : ℕ) (bytes : List ℕ) (total : Result (List A × List ℕ) BadField) → i < count → Fails e (form.at bytes)

@@ -1,6 +1,6 @@
 use Rattle.std.proofs.Common.{◌≡◌, ◌-◌}
 use Rattle.ox_bytes.specs.Fields.{list_at, items_at}
-use Rattle.ox_bytes.proofs.Items.{with_front}
+use Rattle.ox_bytes.specs.ListLaws.{with_front}
 use Rattle.ox_bytes.proofs.lists.ListField.take.Given as goal
 
 abbrev pub invariant-loop : goal.invariant-loop
