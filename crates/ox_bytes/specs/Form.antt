@@ -1,5 +1,5 @@
 -- How the values of a type are written, and what bytes say. A grammar is made of these forms.
-use Rattle.std.specs.Prelude.{◌≡◌, ◌<◌, ℕ, zero, suc, Bool, true, false, ◌&&◌, List, [], ◌∷◌, ◌++◌, length, get_or, Option, Some, None, Result, Ok, Err, if◌then◌else◌}
+use Rattle.std.specs.Prelude.{◌≡◌, ◌<◌, ℕ, zero, suc, Bool, true, false, ◌&&◌, List, [], ◌∷◌, ◌++◌, get_or, Option, Some, None, Result, Ok, Err, if◌then◌else◌}
 use Rattle.ox_bytes.specs.declared.fault.BadField.{BadField}
 use Rattle.ox_bytes.specs.declared.fault.WireRule.{WireRule}
 use Rattle.ox_bytes.specs.declared.fault.WireRule.TheVariants.{Tag}
