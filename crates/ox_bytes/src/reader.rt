@@ -1,5 +1,5 @@
 ghost use Rattle.std.specs.Prelude.{◌≡◌, length, Ok, Err, IfErr, OnErr, if◌then◌else◌};
-ghost use Rattle.ox_bytes.specs.Reading.{Gives, GivesBy, GivesOrShort, Tells, IsShort, bad as bad_field};
+ghost use Rattle.ox_bytes.specs.Reading.{Gives, GivesBy, GivesOrShort, Tells, TakesNoMemory, IsShort, bad as bad_field};
 ghost use Rattle.ox_bytes.specs.Numbers.{u8_at, u32_at, u64_at, bytes_at};
 ghost use Rattle.ox_bytes.specs.Fields.{octets_at, bool as bool_form, tag, number_to, octets, key, value, is_key, is_value, at_end};
 
@@ -150,6 +150,7 @@ impl<'a> Reader<'a> {
     pub fn take_tag(&mut self, count: u8) -> Result<u8, FieldFault>
         ensures read { Gives result self.new ((tag count).at self.old) }
         ensures stays { OnErr result (self.new ≡ self.old) }
+        ensures no_memory { TakesNoMemory result }
     {
         let [first, rest @ ..] = self.left else {
             return Err(FieldFault::Bad(self.bad(WireRule::Short)));
@@ -165,6 +166,7 @@ impl<'a> Reader<'a> {
     pub fn take_bool(&mut self) -> Result<bool, FieldFault>
         ensures read { Gives result self.new (bool_form.at self.old) }
         ensures stays { OnErr result (self.new ≡ self.old) }
+        ensures no_memory { TakesNoMemory result }
     {
         let byte = self.take_tag(2)?;
         Ok(byte == 1)
@@ -174,6 +176,7 @@ impl<'a> Reader<'a> {
     pub fn take_u64_to(&mut self, most: u64) -> Result<u64, FieldFault>
         ensures read { Gives result self.new ((number_to most).at self.old) }
         ensures stays { OnErr result (self.new ≡ self.old) }
+        ensures no_memory { TakesNoMemory result }
     {
         let start = self.left;
         let number = self.take_u64()?;
@@ -189,6 +192,7 @@ impl<'a> Reader<'a> {
     pub fn take_sized(&mut self) -> Result<&'a [u8], FieldFault>
         ensures read { GivesBy (λ text. text.now) result self.new (octets_at self.old) }
         ensures stays { OnErr result (self.new ≡ self.old) }
+        ensures no_memory { TakesNoMemory result }
     {
         let start = self.left;
         let len = self.take_u32()?;
@@ -251,7 +255,8 @@ impl<'a> Reader<'a> {
 
     /// Whether all bytes were taken: what follows a whole value breaks the rule Rest at its first byte.
     pub fn end(&self) -> Result<(), FieldFault>
-        ensures { Tells result (at_end self.now) }
+        ensures read { Tells result (at_end self.now) }
+        ensures no_memory { TakesNoMemory result }
     {
         if self.left.is_empty() {
             Ok(())
