@@ -1,20 +1,18 @@
 -- Which half is the journal.
-use Rattle.std.proofs.Common.{◌≡◌, ◌≢◌, inl, inr, ⊎_elim, ◌⊎◌, ℕ, ◌+◌, ◌%◌, ◌<◌, ◌≤◌, ◌^◌, Bool, true, false, List, [], ◌∷◌, ◌++◌, length, take, drop, refl, sym, ◌∙◌, ap, subst, arith, append_assoc, take-append-drop}
+use Rattle.std.proofs.Common.{◌≡◌, ◌≢◌, inl, inr, ◌⊎◌, ℕ, ◌+◌, ◌%◌, ◌<◌, Bool, true, false, List, [], ◌∷◌, ◌++◌, length, take, drop, refl, sym, ◌∙◌, ap, subst, arith, take-append-drop}
 use Rattle.std.proofs.lemmas.Bool.{cases_eq}
 use Rattle.std.proofs.lemmas.Bool.Decides.{nat_tests}
 use Rattle.std.specs.Prelude.{nat_lt, ◌==◌, if◌then◌else◌, bytes_eq}
 use Rattle.std.specs.Cmp.Lexicographic.{same_text}
-use Rattle.ox_outside.specs.Disk.{Shown, MayLeave, IsSynced, Quiet, LeavesOnly}
-use Rattle.ox_journal.specs.Half.{mark, front, Shut}
+use Rattle.ox_outside.specs.Disk.{Shown, IsSynced, Quiet, LeavesOnly}
+use Rattle.ox_journal.specs.Half.{mark, front}
 use Rattle.ox_journal.specs.Head.{head_of, marked, round_of, choice, later_of, RoundsInRange}
 use Rattle.ox_journal.specs.Made.{DeadOrMade, UnformattedOrEmpty}
-use Rattle.ox_journal.specs.Opening.{chosen, BothQuiet, Recovered, IsUnformatted}
+use Rattle.ox_journal.specs.Opening.{chosen, Recovered, IsUnformatted}
 use Rattle.ox_journal.specs.Pair.{IsHalf, Older, IsOpen, IsReading, LeavesPairs, Holds}
 use Rattle.ox_journal.specs.declared.head.Head.{Head}
 use Rattle.ox_journal.specs.declared.head.Head.TheVariants.{Dead, Bad, Round}
-use Rattle.ox_journal.specs.declared.head.Choice.{Choice}
 use Rattle.ox_journal.specs.declared.head.Choice.TheVariants.{Neither, Damaged, Live}
-use Rattle.ox_journal.proofs.ReadMore.{quiet_synced}
 use Rattle.ox_journal.proofs.Switching.{half_head}
 
 if_range : (a : Bool) (x : Head) → RoundsInRange x → RoundsInRange (if a then x else Dead)

@@ -1,12 +1,12 @@
 -- What the writes of a fill leave.
-use Rattle.std.proofs.Common.{◌≡◌, ◌≢◌, inl, inr, ⊎_elim, ◌⊎◌, ℕ, zero, suc, ◌+◌, ◌-◌, ◌<◌, ◌≤◌, List, [], ◌∷◌, ◌++◌, length, take, drop, Result, OnOk, refl, sym, ◌∙◌, ap, subst, arith, append_assoc, length-append, take-append-drop}
-use Rattle.std.proofs.lemmas.List.{take_at, take-take, drop_more}
-use Rattle.ox_outside.specs.Disk.{Shown, MayLeave, IsSynced, Placed, Torn, Writes, LeavesOnly}
+use Rattle.std.proofs.Common.{◌≡◌, inl, ℕ, zero, suc, ◌+◌, ◌-◌, ◌≤◌, List, [], ◌∷◌, ◌++◌, length, take, drop, Result, refl, sym, ◌∙◌, ap, subst, arith, append_assoc, length-append, take-append-drop}
+use Rattle.std.proofs.lemmas.List.{take_at, take-take}
+use Rattle.ox_outside.specs.Disk.{Shown, Placed, Torn, Writes, LeavesOnly}
 use Rattle.ox_journal.specs.Half.{Shut, Staged}
 use Rattle.ox_journal.specs.Append.{Opens, WithOrWithout}
 use Rattle.ox_journal.specs.Filling.{Fills, Gathers}
-use Rattle.ox_journal.specs.Pair.{IsClosed, IsAside}
-use Rattle.ox_journal.proofs.Steps.{wrote_more, continued}
+use Rattle.ox_journal.specs.Pair.{IsClosed}
+use Rattle.ox_journal.proofs.Steps.{wrote_more}
 
 -- a write behind the first byte leaves it
 pub torn_behind_first : (at n : ℕ) (d c : List ℕ) → Shut [] d → Torn (at + 1) n d c → Shut [] c

@@ -1,13 +1,12 @@
 -- What a pair holds, and one record more.
-use Rattle.std.proofs.Common.{◌≡◌, inl, inr, ⊎_elim, ℕ, zero, suc, ◌+◌, ◌<◌, ◌≤◌, ◌^◌, List, [], ◌∷◌, ◌++◌, length, All, refl, sym, ◌∙◌, ap, subst, arith, append_assoc, length-append}
+use Rattle.std.proofs.Common.{◌≡◌, inl, inr, ⊎_elim, ℕ, zero, suc, ◌+◌, ◌<◌, ◌^◌, List, [], ◌∷◌, ◌++◌, length, All, refl, sym, ◌∙◌, ap, subst, arith, append_assoc, length-append}
 use Rattle.std.proofs.lemmas.List.{append-nil}
 use Rattle.std.proofs.lemmas.List.Elements.{All-append}
-use Rattle.std.specs.Int.{to_be_bytes, w32}
 use Rattle.ox_outside.specs.Disk.{Shown, MayLeave, IsSynced, LeavesOnly}
 use Rattle.ox_journal.specs.Half.{mark, be32, record_text, records_text, front, Shut}
 use Rattle.ox_journal.specs.Append.{Starts, WithOrWithout}
 use Rattle.ox_journal.specs.Appended.{HalfWithOrWithout, BeforeOrAfter}
-use Rattle.ox_journal.specs.Pair.{IsHalf, Older, IsJournal, Holds, IsClosed, IsAside, IsOpen, LeavesPairs}
+use Rattle.ox_journal.specs.Pair.{IsHalf, Older, IsAside, IsOpen, LeavesPairs}
 use Rattle.ox_journal.proofs.Heads.{shut_dead}
 
 pub length-be32 : (n : ℕ) → length (be32 n) ≡ 4

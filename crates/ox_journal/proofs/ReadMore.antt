@@ -1,14 +1,13 @@
 -- One record more is read.
-use Rattle.std.proofs.Common.{◌≡◌, ◌≢◌, ℕ, ◌+◌, ◌-◌, ◌<◌, ◌≤◌, ◌^◌, Bool, true, false, List, [], ◌∷◌, ◌++◌, All, Some, None, length, get_or, take, drop, refl, sym, ◌∙◌, ap, subst, arith, append_assoc, length-append, length-drop, take-append-drop}
+use Rattle.std.proofs.Common.{◌≡◌, ◌≢◌, ℕ, ◌+◌, ◌-◌, ◌<◌, ◌≤◌, ◌^◌, Bool, true, false, List, [], ◌∷◌, ◌++◌, All, Some, None, length, take, drop, refl, sym, ◌∙◌, ap, subst, arith, append_assoc, length-append, length-drop, take-append-drop}
 use Rattle.std.proofs.lemmas.Bool.Decides.{nat_tests}
 use Rattle.std.proofs.lemmas.List.{drop_at, drop-drop, append_cancel_left, get_or-append-add}
 use Rattle.std.specs.Prelude.{nat_lt, ◌==◌, if◌then◌else◌}
-use Rattle.ox_outside.specs.Disk.{Shown, MayLeave, IsSynced, Quiet}
+use Rattle.ox_outside.specs.Disk.{Shown, IsSynced, Quiet}
 use Rattle.ox_journal.specs.Half.{mark, be32, record_text, records_text, front}
 use Rattle.ox_journal.specs.Next.{next_of, number_of, StandsAt}
 use Rattle.ox_journal.specs.Opening.{first_of}
-use Rattle.ox_journal.specs.Pair.{IsHalf, IsReading, IsOpen, IsAside}
-use Rattle.ox_journal.specs.declared.reading.Next.{Next}
+use Rattle.ox_journal.specs.Pair.{IsHalf, IsReading, IsOpen}
 use Rattle.ox_journal.specs.declared.reading.Next.TheVariants.{Ends, Cut, Record}
 use Rattle.ox_journal.proofs.Pairs.{front-push, length-front-push, all-push}
 use Rattle.ox_journal.proofs.Held.{given_first, held_ends, held_not_cut}

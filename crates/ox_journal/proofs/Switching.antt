@@ -1,19 +1,18 @@
 -- A rewrite of a journal into its other half.
-use Rattle.std.proofs.Common.{◌≡◌, ◌⊎◌, inl, inr, ⊎_elim, ℕ, zero, suc, ◌+◌, ◌-◌, ◌%◌, ◌<◌, ◌≤◌, ◌^◌, Bool, true, false, List, [], ◌∷◌, ◌++◌, All, length, refl, sym, ◌∙◌, ap, subst, arith, append_assoc, length-append, zero-add, add-zero}
+use Rattle.std.proofs.Common.{◌≡◌, inl, inr, ℕ, zero, suc, ◌+◌, ◌<◌, ◌^◌, Bool, true, false, List, [], ◌∷◌, ◌++◌, All, length, refl, sym, ◌∙◌, ap, subst, arith, append_assoc, length-append, zero-add, add-zero}
 use Rattle.std.proofs.lemmas.List.{append-nil}
 use Rattle.std.proofs.lemmas.Bool.Decides.{nat_tests}
 use Rattle.std.specs.Prelude.{nat_lt, if◌then◌else◌}
 use Rattle.ox_outside.specs.Disk.{Shown, MayLeave, IsSynced, LeavesOnly}
-use Rattle.ox_journal.specs.Half.{mark, be32, record_text, records_text, front, Shut, Staged}
+use Rattle.ox_journal.specs.Half.{mark, be32, record_text, records_text, front, Shut}
 use Rattle.ox_journal.specs.Head.{head_of}
 use Rattle.ox_journal.specs.Made.{DeadOr}
 use Rattle.ox_journal.specs.Append.{WithOrWithout}
 use Rattle.ox_journal.specs.Filling.{Fills, Gathers, begun_text, BegunSizes, IsRewriting, OldOrNew, inner, next_round}
 use Rattle.ox_journal.specs.Pair.{IsHalf, Older, IsClosed, IsAside, IsOpen, LeavesPairs, Holds}
 use Rattle.ox_journal.specs.declared.head.Head.{Head}
-use Rattle.ox_journal.specs.declared.head.Head.TheVariants.{Dead, Bad, Round}
+use Rattle.ox_journal.specs.declared.head.Head.TheVariants.{Bad, Round}
 use Rattle.ox_journal.proofs.Heads.{shut_dead}
-use Rattle.ox_journal.proofs.Pairs.{aside_seen, aside_left}
 
 -- the text of records of which the last lacks some bytes
 pub begun_last : (left : ℕ) (first : List (List ℕ)) (last : List ℕ) → begun_text left (first ++ last ∷ []) ≡ records_text first ++ (1 ∷ be32 (length last + left) ++ last)

@@ -1,11 +1,10 @@
 -- What a create or a recovery makes of two disks.
 use Rattle.std.specs.Prelude.{◌≡◌, ℕ, List, [], ◌∷◌, Option, Some, None}
-use Rattle.ox_outside.specs.Disk.{Shown, IsSynced, Quiet, LeavesOnly}
+use Rattle.ox_outside.specs.Disk.{Shown, IsSynced, Quiet}
 use Rattle.ox_journal.specs.Head.{head_of, choice}
-use Rattle.ox_journal.specs.Made.{DeadOrMade, UnformattedOrEmpty}
-use Rattle.ox_journal.specs.Pair.{IsOpen, IsReading, LeavesPairs}
+use Rattle.ox_journal.specs.Pair.{IsReading}
 use Rattle.ox_journal.specs.declared.head.Choice.{Choice}
-use Rattle.ox_journal.specs.declared.head.Choice.TheVariants.{Neither, Damaged, Live}
+use Rattle.ox_journal.specs.declared.head.Choice.TheVariants.{Neither, Live}
 
 -- what the heads of two files say
 abbrev pub chosen : Shown → Shown → Choice

@@ -1,16 +1,16 @@
 -- One call more on a disk.
-use Rattle.std.proofs.Common.{Ok, Err, ◌≡◌, ◌⊎◌, inl, inr, ⊎_elim, ℕ, ◌+◌, ◌-◌, ◌^◌, ◌<◌, ◌≤◌, min, List, [], ◌∷◌, ◌++◌, length, take, drop, replicate, fold, refl, sym, ◌∙◌, ap, subst, arith, append_assoc, length-append}
+use Rattle.std.proofs.Common.{Ok, Err, ◌≡◌, ◌⊎◌, inl, inr, ℕ, ◌+◌, ◌-◌, ◌^◌, ◌<◌, ◌≤◌, min, List, [], ◌∷◌, ◌++◌, length, take, drop, replicate, fold, refl, sym, ◌∙◌, ap, subst, arith, append_assoc, length-append}
 use Rattle.std.proofs.Math.Seq.{take-length}
 use Rattle.std.proofs.lemmas.List.{take_at, drop_at, length-take-le, take-append-le, drop-append-le, length-replicate}
 use Rattle.std.proofs.lemmas.List.Sums.{fold-append}
-use Rattle.ox_outside.specs.Disk.{Shown, MayLeave, IsSynced, CallsLater, Placed, Torn, Elapses, Stays, Writes, Syncs}
+use Rattle.ox_outside.specs.Disk.{MayLeave, Torn, Elapses, Stays, Writes, Syncs}
 use Rattle.ox_memory.specs.Log.{put, wrote, tore, Pending, seen_of, image_of, after_call, after, Fits, CutShort, Leaves, shown}
 use Rattle.ox_memory.specs.declared.log.Call.{Call}
 use Rattle.ox_memory.specs.declared.log.Call.TheVariants.{Write, Sync, Crash}
 use Rattle.ox_memory.specs.declared.log.Image.{Image}
 use Rattle.ox_memory.specs.declared.log.Image.TheVariants.{NoneKept, AllKept}
 use Rattle.ox_memory.specs.declared.log.Image.TheVariants.{Torn as EachTorn}
-use Rattle.ox_memory.proofs.Placing.{length-put, same_length, after_ones}
+use Rattle.ox_memory.proofs.Placing.{length-put, after_ones}
 
 below : (a b : ℕ) → (a ≤ b) ⊎ (b < a)
 below a b = grind arith

@@ -1,5 +1,5 @@
 -- What a read takes from a source.
-use Rattle.std.proofs.Common.{◌≡◌, ℕ, zero, suc, ◌+◌, ◌-◌, ◌<◌, ◌≤◌, min, List, [], ◌∷◌, ◌++◌, length, take, drop, refl, sym, ◌∙◌, ap, arith, length-take, length-append, length-drop, take-append-drop}
+use Rattle.std.proofs.Common.{◌≡◌, ℕ, zero, suc, ◌+◌, ◌-◌, ◌<◌, List, [], ◌∷◌, ◌++◌, length, take, drop, refl, sym, ◌∙◌, ap, arith, length-take, length-append, length-drop}
 use Rattle.std.proofs.lemmas.List.{take_at, drop-drop}
 
 rest_after : (n : ℕ) (rest : List ℕ) → take n rest ++ drop (length (take n rest)) rest ≡ rest

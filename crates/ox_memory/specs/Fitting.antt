@@ -1,5 +1,5 @@
 -- That writes fit is a fact.
-use Rattle.std.proofs.Common.{ℕ, ◌≤◌, List, [], ◌∷◌, length}
+use Rattle.std.proofs.Common.{ℕ, List, [], ◌∷◌}
 use Rattle.std.proofs.Math.Bridge.{le_prop}
 use Rattle.ox_memory.specs.Log.{put, Fits}
 use Rattle.ox_memory.specs.declared.log.Call.{Call}

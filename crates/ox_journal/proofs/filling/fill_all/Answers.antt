@@ -1,4 +1,4 @@
-use Rattle.std.proofs.Common.{◌≡◌, ◌∙◌, ◌≤◌, ◌-◌, [], ◌++◌, ℕ, List, length, take, drop, ap, sym, subst, arith, append_assoc}
+use Rattle.std.proofs.Common.{◌∙◌, ◌-◌, [], ◌++◌, ℕ, List, take, drop, ap, subst, arith, append_assoc}
 use Rattle.ox_journal.specs.Filling.{Gathers}
 use Rattle.ox_journal.specs.Half.{Shut}
 use Rattle.ox_journal.proofs.Steps.{continued}

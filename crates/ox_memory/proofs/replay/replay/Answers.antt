@@ -1,5 +1,5 @@
-use Rattle.std.proofs.Common.{ℕ, ◌≡◌, ◌+◌, ◌≤◌, ◌-◌, ◌∙◌, ◌∷◌, take, drop, sym, ap, subst, arith, length, fold, vec_capacity, IsOk, List}
-use Rattle.ox_memory.specs.Log.{put, wrote, Fits}
+use Rattle.std.proofs.Common.{ℕ, ◌≡◌, ◌+◌, ◌≤◌, ◌-◌, ◌∙◌, ◌∷◌, take, drop, ap, arith, length, vec_capacity, List}
+use Rattle.ox_memory.specs.Log.{put}
 use Rattle.ox_memory.specs.declared.log.Call.{Call}
 use Rattle.ox_memory.specs.declared.log.Call.TheVariants.{Write}
 use Rattle.ox_memory.proofs.Placing.{first_of, within, next_put, ok_gives}

@@ -1,8 +1,8 @@
-use Rattle.std.proofs.Common.{replicate, ℕ, ◌≡◌, ◌+◌, ◌≤◌, ◌-◌, ◌∙◌, ◌∷◌, take, drop, sym, ap, subst, arith, length, fold, vec_capacity, IsOk, List}
-use Rattle.ox_memory.specs.Log.{put, wrote, Fits}
+use Rattle.std.proofs.Common.{replicate, ℕ, ◌≡◌, ◌+◌, ◌≤◌, ◌-◌, ◌∙◌, ◌∷◌, take, drop, ap, arith, length, vec_capacity}
+use Rattle.ox_memory.specs.Log.{put}
 use Rattle.ox_memory.specs.declared.log.Call.{Call}
 use Rattle.ox_memory.specs.declared.log.Call.TheVariants.{Write}
-use Rattle.ox_memory.proofs.Placing.{first_of, within, next_torn, ok_gives}
+use Rattle.ox_memory.proofs.Placing.{first_of, within, next_torn}
 use Rattle.ox_memory.proofs.replay.replay_torn.Goals as goal
 
 pub loop-left-preserved-in-Write : goal.loop-left-preserved-in-Write

@@ -1,4 +1,4 @@
-use Rattle.std.proofs.Common.{◌≡◌, ◌∙◌, ℕ, ◌+◌, ◌<◌, ◌^◌, ◌++◌, ◌∷◌, [], length, arith, sym, rules}
+use Rattle.std.proofs.Common.{◌≡◌, ◌∙◌, ◌<◌, ◌^◌, ◌++◌, ◌∷◌, [], length, arith, rules}
 use Rattle.ox_journal.specs.Half.{record_text, front}
 use Rattle.ox_journal.proofs.Pairs.{starts, live_leaves, pair_leaves, opened_next}
 use Rattle.ox_journal.proofs.journal.Journal.append.Goals as goal

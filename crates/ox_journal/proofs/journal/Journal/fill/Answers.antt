@@ -1,5 +1,5 @@
 use Rattle.ox_journal.proofs.Switching.{filled_more, fill_leaves, with_spare}
-use Rattle.std.proofs.Common.{◌≡◌, ◌+◌, length, arith}
+use Rattle.std.proofs.Common.{arith}
 use Rattle.ox_journal.proofs.journal.Journal.fill.Goals as goal
 
 pub returns-in-Ok-clause-done : goal.returns-in-Ok-clause-done

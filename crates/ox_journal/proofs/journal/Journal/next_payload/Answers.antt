@@ -1,7 +1,4 @@
-use Rattle.std.proofs.Common.{◌≡◌, ◌<◌, ◌^◌, ◌+◌, ◌∙◌, sym, ap, arith, Ok, Err, inl, inr, length, ℕ}
-use Rattle.ox_outside.specs.Disk.{Quiet}
-use Rattle.ox_journal.specs.Next.{StandsAt}
-use Rattle.ox_journal.specs.Pair.{IsReading}
+use Rattle.std.proofs.Common.{◌≡◌, Err, inl, inr, length}
 use Rattle.ox_journal.specs.declared.fault.JournalFault.TheVariants.{Damaged}
 use Rattle.ox_journal.proofs.ReadMore.{read_more, read_all, still_reading, held_next, held_none, held_whole}
 use Rattle.ox_journal.proofs.journal.Journal.next_payload.Goals as goal

@@ -1,4 +1,4 @@
-use Rattle.std.proofs.Common.{◌≡◌, ◌∙◌, sym, arith}
+use Rattle.std.proofs.Common.{◌∙◌, sym}
 use Rattle.ox_journal.proofs.Chosen.{found_zero, found_one, held_zero, held_one, held_neither, held_damaged}
 use Rattle.ox_journal.proofs.journal.Journal.recover.Goals as goal
 

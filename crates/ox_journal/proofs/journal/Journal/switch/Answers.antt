@@ -1,5 +1,4 @@
-use Rattle.std.proofs.Common.{◌≡◌, ◌∙◌, ◌+◌, ◌%◌, ◌++◌, ◌∷◌, [], ℕ, List, length, arith, rules}
-use Rattle.ox_journal.specs.Filling.{inner, next_round, IsRewriting}
+use Rattle.std.proofs.Common.{◌≡◌, ◌++◌, ◌∷◌, [], length, arith, rules}
 use Rattle.ox_journal.proofs.Switching.{whole_now, switch_leaves, switched, closes}
 use Rattle.ox_journal.proofs.journal.Journal.switch.Goals as goal
 

@@ -1,4 +1,4 @@
-use Rattle.std.proofs.Common.{◌≡◌, ◌∙◌, ◌++◌, ◌∷◌, [], List, ap}
+use Rattle.std.proofs.Common.{◌∙◌, ◌++◌, ◌∷◌, [], List, ap}
 use Rattle.ox_memory.specs.declared.log.Call.{Call}
 use Rattle.ox_memory.specs.declared.log.Call.TheVariants.{Sync}
 use Rattle.ox_memory.proofs.Moments.{synced}

@@ -1,6 +1,5 @@
-use Rattle.std.proofs.Common.{◌≡◌, ◌∙◌, ◌≤◌, ◌++◌, ◌∷◌, [], ℕ, List, length, ap, sym}
-use Rattle.ox_memory.specs.Log.{put, after, seen_of}
-use Rattle.ox_memory.specs.declared.log.Call.{Call}
+use Rattle.std.proofs.Common.{◌≡◌, ◌∙◌, ◌++◌, ◌∷◌, [], ℕ, List, ap, sym}
+use Rattle.ox_memory.specs.Log.{put}
 use Rattle.ox_memory.specs.declared.log.Call.TheVariants.{Write}
 use Rattle.ox_memory.proofs.Moments.{written, not_written, seen_more, safe_more, writes_more, fits_more}
 use Rattle.ox_memory.proofs.disk.MemoryDiskDisk.write_at.Goals as goal
