@@ -7,8 +7,8 @@ use std::test::Fail;
 
 // The first half of a journal with one record of 13 bytes.
 const FILE: [u8; 29] = [
-    1, 0x4f, 0x58, 0x49, 0x41, 0x4a, 0x52, 0x4e, 0x31, 0, 1, 0, 0, 0, 13, 0, 0, 0, 1, 0, 0, 0, 0, 0, 0,
-    0, 0, 1, 0,
+    1, 0x4f, 0x58, 0x49, 0x41, 0x4a, 0x52, 0x4e, 0x31, 0, 1, 0, 0, 0, 13, 0, 0, 0, 1, 0, 0, 0, 0,
+    0, 0, 0, 0, 1, 0,
 ];
 
 fn disk_of(alloc: Global, bytes: &[u8]) -> Result<Option<MemoryDisk>, Fail> {
