@@ -1,0 +1,9 @@
+mod Chosen
+mod Fill
+mod Heads
+mod Held
+mod Pairs
+mod ReadMore
+mod Records
+mod Steps
+mod Switching

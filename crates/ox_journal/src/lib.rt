@@ -1,0 +1,19 @@
+//! A journal over two files: records behind gates, and a rewrite of all of them.
+#![tactic(auto)]
+
+mod fault;
+mod filling;
+mod head;
+mod journal;
+mod making;
+mod next;
+mod opening;
+mod reading;
+mod record;
+mod rewrite;
+mod state;
+
+pub use fault::{DiskFault, JournalFault};
+pub use head::{Choice, Head};
+pub use journal::Journal;
+pub use state::State;
