@@ -16,8 +16,3 @@ pub enum JournalFault {
     #[error("memory ran out")]
     NoMemory,
 }
-
-/// A disk failed in this call, or an earlier call of this journal answered so.
-#[derive(Clone, Copy, Debug, Error, PartialEq, Eq)]
-#[error("a disk failed")]
-pub struct DiskFault;

@@ -7,10 +7,9 @@ ghost use Rattle.ox_journal.specs.Pair.{IsOpen, LeavesPairs};
 ghost use Rattle.ox_journal.specs.Appended.{HalfWithOrWithout, BeforeOrAfter};
 ghost use Rattle.ox_journal.specs.declared.state.State.TheVariants.{Reading, Broken};
 
-use crate::fault::DiskFault;
 use crate::record::add_record;
 use crate::state::State;
-use ox_outside::Disk;
+use ox_outside::{Disk, DiskFault};
 use std::alloc::Global;
 
 /// Records in two files, of which one is the journal (`live`) and the other what it is rewritten into (`spare`).

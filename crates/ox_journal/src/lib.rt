@@ -13,7 +13,8 @@ mod record;
 mod rewrite;
 mod state;
 
-pub use fault::{DiskFault, JournalFault};
+pub use fault::JournalFault;
 pub use head::{Choice, Head};
 pub use journal::Journal;
+pub use ox_outside::DiskFault;
 pub use state::State;

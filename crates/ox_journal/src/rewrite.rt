@@ -5,12 +5,11 @@ ghost use Rattle.ox_journal.specs.Filling.{IsRewriting, OldOrNew, next_round};
 ghost use Rattle.ox_journal.specs.Pair.{IsOpen, LeavesPairs, Holds};
 ghost use Rattle.ox_journal.specs.declared.state.State.TheVariants.{Reading, Open, Broken, Filling};
 
-use crate::fault::DiskFault;
 use crate::filling::{fill_all, fill_once, switch_half};
 use crate::journal::Journal;
 use crate::making::close_gate;
 use crate::state::State;
-use ox_outside::Disk;
+use ox_outside::{Disk, DiskFault};
 use std::mem;
 
 impl<D: Disk> Journal<D> {
