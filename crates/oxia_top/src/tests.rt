@@ -1,35 +1,9 @@
 use super::*;
+use ox_memory::{MemorySink, MemorySource};
 use ox_outside::{Failed, Sink, Source};
 use ox_types::{Ended, LineRule, List, NoMemory, Octets};
 use std::alloc::Global;
 use std::test::Fail;
-
-/// A source over memory, which fails at one read.
-#[derive(Drop)]
-struct Given<'a> {
-    rest: &'a [u8],
-    faults: u64,
-    fails_in: u64,
-}
-
-impl Source for Given<'_> {
-    ghost use Rattle.std.specs.Prelude.{Some};
-
-    ghost stream = { λ s. record { told = Some s.rest.now; faults = s.faults } };
-
-    fn read(&mut self, into: &mut [u8]) -> Result<usize, Failed> {
-        if self.fails_in == 0 {
-            self.faults = self.faults.saturating_add(1);
-            return Err(Failed);
-        }
-        self.fails_in -= 1;
-        let count = into.len().min(self.rest.len()).min(4096);
-        let (front, rest) = self.rest.split_at(count);
-        into[..count].copy_from_slice(front);
-        self.rest = rest;
-        Ok(count)
-    }
-}
 
 /// A sink over memory that takes one byte at a time, and fails at one write.
 #[derive(Drop)]
@@ -81,27 +55,29 @@ fn words_of(alloc: Global, words: &[&[u8]]) -> Result<List<Octets>, NoMemory> {
     Ok(list)
 }
 
-fn sink(alloc: Global, fails_in: u64) -> Taken {
-    Taken {
-        bytes: Octets::new(alloc),
-        faults: 0,
-        fails_in,
-    }
+/// A source of the text, which fails at the read of this number, from 1.
+fn source_of(alloc: Global, text: &[u8], fails_at: u64) -> Result<MemorySource, NoMemory> {
+    let mut failing = List::new(alloc);
+    failing.push(fails_at)?;
+    let mut source = MemorySource::with_failing(alloc, failing)?;
+    source.give(text)?;
+    Ok(source)
 }
 
+/// How `replay` ends over a source that fails at one read and a sink that takes so many bytes, one by one.
 fn replayed(
     alloc: Global,
     text: &[u8],
-    reads: u64,
+    fails_at: u64,
     writes: u64,
 ) -> Result<(Ended, Octets), NoMemory> {
     let words = words_of(alloc, &[b"replay"])?;
-    let mut source = Given {
-        rest: text,
+    let mut source = source_of(alloc, text, fails_at)?;
+    let mut sink = Taken {
+        bytes: Octets::new(alloc),
         faults: 0,
-        fails_in: reads,
+        fails_in: writes,
     };
-    let mut sink = sink(alloc, writes);
     let ended = oxia(alloc, &words, &mut source, &mut sink);
     let Taken { bytes, .. } = sink;
     Ok((ended, bytes))
@@ -111,7 +87,7 @@ fn replayed(
 fn ended(alloc: Global, words: &[&[u8]], left: usize) -> Result<Ended, NoMemory> {
     let words = words_of(alloc, words)?;
     let mut source = Zeros { left };
-    let mut sink = sink(alloc, 1000);
+    let mut sink = MemorySink::sound(alloc)?;
     Ok(oxia(alloc, &words, &mut source, &mut sink))
 }
 
@@ -132,7 +108,7 @@ fn words_that_are_no_command(rt: HostRuntime) -> Result<(), Fail> {
 #[test]
 fn a_second_put_counts_a_modification(rt: HostRuntime) -> Result<(), Fail> {
     let text = b"solo 1\nclient 1 0 put a x\nclient 1 0 put a y\nclient 1 0 get equal a\n";
-    let (ended, bytes) = replayed(rt.alloc(), text, 1000, 1000)?;
+    let (ended, bytes) = replayed(rt.alloc(), text, 0, 1000)?;
     assert_eq!(rt; ended, Ended::Done);
     let wanted =
         b"@1 client 1 0 put a x\n  arrival 1\n  kept append=1 head=1:2\n  ack 1 1 1 put a 0 0 0 0\n@2 client 1 0 put a y\n  arrival 2\n  kept append=1 head=1:3\n  ack 2 1 2 put a 1 1 0 0\n@3 client 1 0 get equal a\n  arrival 3\n  read 3 1 3 record a y 1 1 0 0 -\nhistory 0 3\n  0 1 0 pass\n  1 1 0 write 1\n  2 1 0 write 2\n";
@@ -142,7 +118,7 @@ fn a_second_put_counts_a_modification(rt: HostRuntime) -> Result<(), Fail> {
 
 #[test]
 fn the_first_line_alone(rt: HostRuntime) -> Result<(), Fail> {
-    let (ended, bytes) = replayed(rt.alloc(), b"solo 1", 1000, 1000)?;
+    let (ended, bytes) = replayed(rt.alloc(), b"solo 1", 0, 1000)?;
     assert_eq!(rt; ended, Ended::Done);
     assert_eq!(rt; bytes.as_slice(), b"history 0 1\n  0 1 0 pass\n".as_slice());
     Ok(())
@@ -193,7 +169,7 @@ fn bad_lines(rt: HostRuntime) -> Result<(), Fail> {
         ),
     ];
     for (text, line, rule) in cases {
-        let (ended, bytes) = replayed(rt.alloc(), text, 1000, 1000)?;
+        let (ended, bytes) = replayed(rt.alloc(), text, 0, 1000)?;
         assert_eq!(rt; ended, Ended::BadLine { line, rule });
         assert!(rt; bytes.is_empty());
     }
@@ -232,7 +208,7 @@ fn keys_and_values_at_their_limits(rt: HostRuntime) -> Result<(), Fail> {
     ];
     for (key, value, wanted) in cases {
         let text = one_put(rt.alloc(), key, value)?;
-        let (ended, _) = replayed(rt.alloc(), text.as_slice(), 1000, 10)?;
+        let (ended, _) = replayed(rt.alloc(), text.as_slice(), 0, 10)?;
         assert_eq!(rt; ended, wanted);
     }
     Ok(())
@@ -240,7 +216,7 @@ fn keys_and_values_at_their_limits(rt: HostRuntime) -> Result<(), Fail> {
 
 #[test]
 fn a_read_that_fails_in_mid_stream(rt: HostRuntime) -> Result<(), Fail> {
-    let (ended, bytes) = replayed(rt.alloc(), b"solo 1\nclient 1 0 put a x\n", 1, 1000)?;
+    let (ended, bytes) = replayed(rt.alloc(), b"solo 1\nclient 1 0 put a x\n", 2, 1000)?;
     assert_eq!(rt; ended, Ended::ReadFault);
     assert!(rt; bytes.is_empty());
     Ok(())
@@ -248,7 +224,7 @@ fn a_read_that_fails_in_mid_stream(rt: HostRuntime) -> Result<(), Fail> {
 
 #[test]
 fn a_write_that_fails_in_mid_stream(rt: HostRuntime) -> Result<(), Fail> {
-    let (ended, bytes) = replayed(rt.alloc(), b"solo 1\n", 1000, 9)?;
+    let (ended, bytes) = replayed(rt.alloc(), b"solo 1\n", 0, 9)?;
     assert_eq!(rt; ended, Ended::WriteFault);
     assert_eq!(rt; bytes.as_slice(), b"history 0".as_slice());
     Ok(())
