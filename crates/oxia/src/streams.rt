@@ -1,4 +1,6 @@
 // The standard streams as a source and a sink.
+ghost use Rattle.std.specs.Prelude.{◌≡◌};
+
 use ox_outside::{Failed, Sink, Source};
 use std::io::{Read, Write};
 
@@ -10,7 +12,10 @@ pub struct Input<R: Read> {
 }
 
 impl<R: Read> Input<R> {
-    pub fn new(inner: R) -> Input<R> {
+    pub fn new(inner: R) -> Input<R>
+        ensures reader { result.inner ≡ inner }
+        ensures sound { result.faults ≡ 0 }
+    {
         Input { inner, faults: 0 }
     }
 }
@@ -37,7 +42,10 @@ pub struct Output<W: Write> {
 }
 
 impl<W: Write> Output<W> {
-    pub fn new(inner: W) -> Output<W> {
+    pub fn new(inner: W) -> Output<W>
+        ensures writer { result.inner ≡ inner }
+        ensures sound { result.faults ≡ 0 }
+    {
         Output { inner, faults: 0 }
     }
 }
