@@ -1,0 +1,5 @@
+mod Cuts
+mod Filters
+mod Last
+mod Places
+mod Search
