@@ -1,0 +1,9 @@
+pub mod Reading
+pub mod Numbers
+pub mod Form
+pub mod Fields
+pub mod Lists
+pub mod NumberLaws
+pub mod FormLaws
+pub mod FieldLaws
+pub mod ListLaws
