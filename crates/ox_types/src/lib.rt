@@ -1,6 +1,7 @@
 //! Types that every crate of the store shares.
 #![tactic(auto)]
 
+mod bad;
 mod ended;
 mod key;
 mod list;
@@ -9,6 +10,7 @@ mod octets;
 mod order;
 mod value;
 
+pub use bad::{Bad, MachineFault, Part, Rule};
 pub use ended::{Ended, LineRule};
 pub use key::{KEY_LIMIT, Key, KeyFault};
 pub use list::List;
