@@ -1,0 +1,9 @@
+pub mod State
+pub mod Weight
+pub mod Sequence
+pub mod Operation
+pub mod Apply
+pub mod Forms
+pub mod Page
+pub mod Answer
+pub mod Check

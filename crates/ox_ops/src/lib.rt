@@ -1,0 +1,16 @@
+//! The vocabulary of the store: operations, replies, queries and answers, what they mean, and their bytes.
+#![tactic(auto)]
+
+mod answer;
+mod notice;
+mod query;
+mod reply;
+mod write;
+
+pub use answer::{Record, ShardAnswer};
+pub use notice::{Notice, NoticeBatch, NoticeItem};
+pub use ox_order::{Hi, KeyRange, Lo};
+pub use ox_types::{Bad, MachineFault, Part, Rule};
+pub use query::{Compare, ShardQuery};
+pub use reply::{Meta, OpReply, ShardReply};
+pub use write::{Delete, Expect, IndexEntry, Put, ShardCommand, WriteBatch};
