@@ -1,13 +1,10 @@
 -- The bytes of commands, replies, queries and answers. Each form is its fields in order; an enum's byte counts its variants.
-use Rattle.std.specs.Prelude.{ℕ, ◌^◌, Bool, ◌&&◌, nat_le, List, [], ◌∷◌, length, Option, Some, None}
+use Rattle.std.specs.Prelude.{ℕ, Bool, ◌&&◌, nat_le, List, [], ◌∷◌, length, Option, Some, None}
 use Rattle.ox_bytes.specs.declared.fault.WireRule.TheVariants.{Range}
 use Rattle.ox_bytes.specs.Form.{Form, checked, pair, struct_of, empty, variant}
 use Rattle.ox_bytes.specs.Fields.{number64, number32, number_to, bool, octets, key, value, option, list, choice}
-use Rattle.ox_order.specs.declared.range.Lo.{Lo}
-use Rattle.ox_order.specs.declared.range.Lo.TheVariants.{Start, At, Past}
-use Rattle.ox_order.specs.declared.range.Hi.{Hi}
-use Rattle.ox_order.specs.declared.range.Hi.TheVariants.{End, Before}
 use Rattle.ox_order.specs.declared.range.KeyRange.{KeyRange}
+use Rattle.ox_order.specs.Forms.{key_range}
 use Rattle.ox_ops.specs.declared.write.Expect.{Expect}
 use Rattle.ox_ops.specs.declared.write.Expect.TheVariants as expect_is
 use Rattle.ox_ops.specs.declared.write.IndexEntry.{IndexEntry}
@@ -31,9 +28,9 @@ use Rattle.ox_ops.specs.declared.answer.Record.{Record}
 use Rattle.ox_ops.specs.declared.answer.ShardAnswer.{ShardAnswer}
 use Rattle.ox_ops.specs.declared.answer.ShardAnswer.TheVariants as answer_is
 
--- a term, a count, an offset or a time
+-- a time or an offset
 abbrev pub bounded : Form ℕ
-bounded = number_to (2 ^ 53)
+bounded = number_to 9007199254740992
 
 -- the version of a record
 abbrev pub version : Form ℕ
@@ -43,9 +40,11 @@ version = number_to 9223372036854775807
 abbrev pub is_name : List ℕ → Bool
 is_name bytes = nat_le 1 (length bytes) && nat_le (length bytes) 255
 
+-- the bytes of a name behind their length
 abbrev pub index_name : Form (List ℕ)
 index_name = checked is_name Range octets
 
+-- the byte of an expectation, and its field where it is of this kind
 abbrev pub expect_tag : Expect → ℕ
 expect_tag expect_is.Any = 0
 expect_tag expect_is.Absent = 1
@@ -63,6 +62,7 @@ abbrev pub expect_exactly : Expect → Option (ℕ)
 expect_exactly (expect_is.Exactly v) = Some v
 expect_exactly _ = None
 
+-- an expectation
 unfoldable pub expect : Form Expect
 expect = choice expect_tag (
     variant (λ _. expect_is.Any) expect_any empty
@@ -70,63 +70,23 @@ expect = choice expect_tag (
     ∷ variant (λ p. expect_is.Exactly p) expect_exactly number64
     ∷ [])
 
+-- an index entry
 unfoldable pub index_entry : Form IndexEntry
 index_entry = struct_of (λ p. record { name = p.0; key = p.1 }) (λ x. (x.name, x.key)) (pair index_name key)
 
+-- a put
 unfoldable pub put : Form Put
 put = struct_of (λ p. record { key = p.0; value = p.1.0; expect = p.1.1.0; session = p.1.1.1.0; deltas = p.1.1.1.1.0; indexes = p.1.1.1.1.1 }) (λ x. (x.key, (x.value, (x.expect, (x.session, (x.deltas, x.indexes)))))) (pair key (pair value (pair expect (pair (option number64) (pair (list number64) (list index_entry))))))
 
+-- a delete
 unfoldable pub delete : Form Delete
 delete = struct_of (λ p. record { key = p.0; expect = p.1 }) (λ x. (x.key, x.expect)) (pair key expect)
 
-abbrev pub lo_tag : Lo → ℕ
-lo_tag Start = 0
-lo_tag (At k) = 1
-lo_tag (Past k) = 2
-
-abbrev pub lo_start : Lo → Option (Unit {0})
-lo_start Start = Some tt
-lo_start _ = None
-
-abbrev pub lo_at : Lo → Option (List ℕ)
-lo_at (At k) = Some k
-lo_at _ = None
-
-abbrev pub lo_past : Lo → Option (List ℕ)
-lo_past (Past k) = Some k
-lo_past _ = None
-
-unfoldable pub lo : Form Lo
-lo = choice lo_tag (
-    variant (λ _. Start) lo_start empty
-    ∷ variant (λ p. At p) lo_at key
-    ∷ variant (λ p. Past p) lo_past key
-    ∷ [])
-
-abbrev pub hi_tag : Hi → ℕ
-hi_tag End = 0
-hi_tag (Before k) = 1
-
-abbrev pub hi_end : Hi → Option (Unit {0})
-hi_end End = Some tt
-hi_end _ = None
-
-abbrev pub hi_before : Hi → Option (List ℕ)
-hi_before (Before k) = Some k
-hi_before _ = None
-
-unfoldable pub hi : Form Hi
-hi = choice hi_tag (
-    variant (λ _. End) hi_end empty
-    ∷ variant (λ p. Before p) hi_before key
-    ∷ [])
-
-unfoldable pub key_range : Form KeyRange
-key_range = struct_of (λ p. record { lo = p.0; hi = p.1 }) (λ x. (x.lo, x.hi)) (pair lo hi)
-
+-- a batch
 unfoldable pub write_batch : Form WriteBatch
 write_batch = struct_of (λ p. record { puts = p.0; deletes = p.1.0; ranges = p.1.1 }) (λ x. (x.puts, (x.deletes, x.ranges))) (pair (list put) (pair (list delete) (list key_range)))
 
+-- the byte of a command, and its field where it is of this kind
 abbrev pub command_tag : ShardCommand → ℕ
 command_tag (command_is.Write b) = 0
 command_tag (command_is.Open t) = 1
@@ -149,6 +109,7 @@ abbrev pub command_expire : ShardCommand → Option (ℕ)
 command_expire (command_is.Expire id) = Some id
 command_expire _ = None
 
+-- a command
 unfoldable pub command : Form ShardCommand
 command = choice command_tag (
     variant (λ p. command_is.Write p) command_write write_batch
@@ -157,9 +118,11 @@ command = choice command_tag (
     ∷ variant (λ p. command_is.Expire p) command_expire number64
     ∷ [])
 
+-- how a record came about
 unfoldable pub meta : Form Meta
 meta = struct_of (λ p. record { version = p.0; modifications = p.1.0; created = p.1.1.0; modified = p.1.1.1 }) (λ x. (x.version, (x.modifications, (x.created, x.modified)))) (pair version (pair number64 (pair bounded bounded)))
 
+-- the byte of a reply, and its fields where it is of this kind
 abbrev pub op_reply_tag : OpReply → ℕ
 op_reply_tag (reply_is.Put k m) = 0
 op_reply_tag reply_is.Deleted = 1
@@ -212,6 +175,7 @@ abbrev pub op_reply_closed : OpReply → Option (ℕ)
 op_reply_closed (reply_is.Closed n) = Some n
 op_reply_closed _ = None
 
+-- the reply to one operation
 unfoldable pub op_reply : Form OpReply
 op_reply = choice op_reply_tag (
     variant (λ p. reply_is.Put p.0 p.1) op_reply_put (pair key meta)
@@ -226,9 +190,11 @@ op_reply = choice op_reply_tag (
     ∷ variant (λ p. reply_is.Closed p) op_reply_closed number64
     ∷ [])
 
+-- the replies of a command
 unfoldable pub shard_reply : Form ShardReply
 shard_reply = struct_of (λ p. record { ops = p }) (λ x. x.ops) (list op_reply)
 
+-- the byte of a comparison, and whether it is of this kind
 abbrev pub compare_tag : Compare → ℕ
 compare_tag compare_is.Equal = 0
 compare_tag compare_is.Floor = 1
@@ -256,6 +222,7 @@ abbrev pub compare_higher : Compare → Option (Unit {0})
 compare_higher compare_is.Higher = Some tt
 compare_higher _ = None
 
+-- a comparison
 unfoldable pub compare : Form Compare
 compare = choice compare_tag (
     variant (λ _. compare_is.Equal) compare_equal empty
@@ -265,6 +232,7 @@ compare = choice compare_tag (
     ∷ variant (λ _. compare_is.Higher) compare_higher empty
     ∷ [])
 
+-- the byte of a query, and its fields where it is of this kind
 abbrev pub query_tag : ShardQuery → ℕ
 query_tag (query_is.Get c k by) = 0
 query_tag (query_is.List r by) = 1
@@ -292,6 +260,7 @@ abbrev pub query_keep_alive : ShardQuery → Option (ℕ)
 query_keep_alive (query_is.KeepAlive id) = Some id
 query_keep_alive _ = None
 
+-- a query
 unfoldable pub query : Form ShardQuery
 query = choice query_tag (
     variant (λ p. query_is.Get p.0 p.1.0 p.1.1) query_get (pair compare (pair key (option index_name)))
@@ -301,6 +270,7 @@ query = choice query_tag (
     ∷ variant (λ p. query_is.KeepAlive p) query_keep_alive number64
     ∷ [])
 
+-- the byte of a notice, and its fields where it is of this kind
 abbrev pub notice_tag : Notice → ℕ
 notice_tag (notice_is.Created k v) = 0
 notice_tag (notice_is.Modified k v) = 1
@@ -323,6 +293,7 @@ abbrev pub notice_ranged : Notice → Option (KeyRange)
 notice_ranged (notice_is.Ranged r) = Some r
 notice_ranged _ = None
 
+-- a notice
 unfoldable pub notice : Form Notice
 notice = choice notice_tag (
     variant (λ p. notice_is.Created p.0 p.1) notice_created (pair key version)
@@ -331,12 +302,15 @@ notice = choice notice_tag (
     ∷ variant (λ p. notice_is.Ranged p) notice_ranged key_range
     ∷ [])
 
+-- a notice and the offset of its entry
 unfoldable pub notice_item : Form NoticeItem
 notice_item = struct_of (λ p. record { offset = p.0; notice = p.1 }) (λ x. (x.offset, x.notice)) (pair bounded notice)
 
+-- a record
 unfoldable pub record_form : Form Record
 record_form = struct_of (λ p. record { key = p.0; value = p.1.0; meta = p.1.1.0; session = p.1.1.1.0; indexes = p.1.1.1.1 }) (λ x. (x.key, (x.value, (x.meta, (x.session, x.indexes))))) (pair key (pair value (pair meta (pair (option number64) (list index_entry)))))
 
+-- the byte of an answer, and its fields where it is of this kind
 abbrev pub answer_tag : ShardAnswer → ℕ
 answer_tag (answer_is.Got r) = 0
 answer_tag (answer_is.Keys ks more) = 1
@@ -374,6 +348,7 @@ abbrev pub answer_session_does_not_exist : ShardAnswer → Option (ℕ)
 answer_session_does_not_exist (answer_is.SessionDoesNotExist id) = Some id
 answer_session_does_not_exist _ = None
 
+-- an answer
 unfoldable pub answer : Form ShardAnswer
 answer = choice answer_tag (
     variant (λ p. answer_is.Got p) answer_got (option record_form)

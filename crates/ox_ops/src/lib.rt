@@ -2,12 +2,18 @@
 #![tactic(auto)]
 
 mod answer;
+mod codec;
+mod fields;
 mod notice;
 mod query;
 mod reply;
 mod write;
 
 pub use answer::{Record, ShardAnswer};
+pub use codec::{
+    decode_answer, decode_command, decode_query, decode_reply, encode_answer, encode_command,
+    encode_query, encode_reply,
+};
 pub use notice::{Notice, NoticeBatch, NoticeItem};
 pub use ox_order::{Hi, KeyRange, Lo};
 pub use ox_types::{Bad, MachineFault, Part, Rule};
