@@ -27,19 +27,23 @@ None or_else y = y
 abbrev pub fault_if : {A : Type 0} → Bool → A → Option A
 fault_if test x = if test then Some x else None
 
+-- is it the expectation that never fails?
 abbrev pub is_any : Expect → Bool
 is_any Any = true
 is_any Absent = false
 is_any (Exactly v) = false
 
+-- is the first delta 0?
 abbrev pub begins_with_0 : List ℕ → Bool
 begins_with_0 [] = false
 begins_with_0 (d ∷ deltas) = d == 0
 
-abbrev pub is_some : List ℕ → Bool
-is_some [] = false
-is_some (d ∷ deltas) = true
+-- are there deltas?
+abbrev pub has_deltas : List ℕ → Bool
+has_deltas [] = false
+has_deltas (d ∷ deltas) = true
 
+-- the same name and the same key
 abbrev pub same_entry : IndexEntry → IndexEntry → Bool
 same_entry a b = bytes_eq a.name b.name && bytes_eq a.key b.key
 
@@ -53,11 +57,12 @@ abbrev pub put_fault : Put → Option Rule
 put_fault p =
     fault_if (nat_lt 8 (length p.deltas)) rule.Deltas
     or_else fault_if (begins_with_0 p.deltas) rule.First
-    or_else fault_if (is_some p.deltas && not (is_any p.expect)) rule.Sequence
+    or_else fault_if (has_deltas p.deltas && not (is_any p.expect)) rule.Sequence
     or_else fault_if (nat_lt 4096 (length p.key + 21 * length p.deltas)) rule.Long
     or_else fault_if (nat_lt 16 (length p.indexes)) rule.Indexes
     or_else fault_if (has_repeated p.indexes) rule.Repeated
 
+-- the fault of the put with this number
 abbrev pub bad_put : ℕ → Rule → Bad
 bad_put index r = record { part = part.Put; index = index; rule = r }
 
@@ -66,6 +71,7 @@ abbrev pub put_faults : ℕ → List Put → Option Bad
 put_faults index [] = None
 put_faults index (p ∷ puts) = option_map (bad_put index) (put_fault p) or_else put_faults (index + 1) puts
 
+-- the fault of the whole batch
 abbrev pub bad_batch : Rule → Bad
 bad_batch r = record { part = part.Batch; index = 0; rule = r }
 
@@ -73,6 +79,7 @@ bad_batch r = record { part = part.Batch; index = 0; rule = r }
 abbrev pub operations_in : WriteBatch → ℕ
 operations_in b = length b.puts + length b.deletes + length b.ranges
 
+-- is the number of operations out of bounds?
 abbrev pub is_many : ℕ → Bool
 is_many n = n == 0 || nat_lt 1000 n
 
@@ -80,15 +87,24 @@ is_many n = n == 0 || nat_lt 1000 n
 abbrev pub command_bytes : ℕ
 command_bytes = 2097152
 
+-- may a session have this timeout (ms)?
 abbrev pub is_timeout : ℕ → Bool
 is_timeout t = nat_le 1000 t && nat_le t 600000
 
--- The first fault of a command, in the order of the rules.
-unfoldable pub command_fault : ShardCommand → Option Bad
-command_fault (Write b) =
+-- the first fault of a batch whose command has so many bytes
+abbrev pub batch_fault : WriteBatch → ℕ → Option Bad
+batch_fault b bytes =
     fault_if (is_many (operations_in b)) (bad_batch rule.Ops)
-    or_else fault_if (nat_lt command_bytes (length (command.text (Write b)))) (bad_batch rule.Size)
+    or_else fault_if (nat_lt command_bytes bytes) (bad_batch rule.Size)
     or_else put_faults 0 b.puts
-command_fault (Open timeout) = fault_if (not (is_timeout timeout)) (record { part = part.Session; index = 0; rule = rule.Timeout })
+
+-- the fault of a timeout
+abbrev pub timeout_fault : ℕ → Option Bad
+timeout_fault timeout = fault_if (not (is_timeout timeout)) (record { part = part.Session; index = 0; rule = rule.Timeout })
+
+-- The first fault of a command, in the order of the rules. An expiry is a leader's, and a fault of a client.
+unfoldable pub command_fault : ShardCommand → Option Bad
+command_fault (Write b) = batch_fault b (length (command.text (Write b)))
+command_fault (Open timeout) = timeout_fault timeout
 command_fault (Close id) = None
 command_fault (Expire id) = Some (bad_batch rule.Expire)

@@ -60,9 +60,15 @@ expect_exactly_there _ a h = absurd cc
 pub expect_exact : IsExact expect
 unfolding expect
 expect_exact = choice_exact expect_tag _ (
-  is_variant expect_tag 0 (λ _. expect_is.Any) expect_any empty expect_any_there (λ a. refl) (λ a. refl) empty_exact, (
-  is_variant expect_tag 1 (λ _. expect_is.Absent) expect_absent empty expect_absent_there (λ a. refl) (λ a. refl) empty_exact, (
-  is_variant expect_tag 2 (λ p. expect_is.Exactly p) expect_exactly number64 expect_exactly_there (λ a. refl) (λ a. refl) number64_exact, tt)))
+  is_variant expect_tag 0 (λ _. expect_is.Any) expect_any empty expect_any_there (λ a. refl) (λ a. refl) empty_exact,
+  (
+    is_variant expect_tag 1 (λ _. expect_is.Absent) expect_absent empty expect_absent_there (λ a. refl) (λ a. refl) empty_exact,
+    (
+      is_variant expect_tag 2 (λ p. expect_is.Exactly p) expect_exactly number64 expect_exactly_there (λ a. refl) (λ a. refl) number64_exact,
+      tt,
+    ),
+  ),
+)
 
 pub index_entry_exact : IsExact index_entry
 unfolding index_entry
@@ -99,10 +105,18 @@ command_expire_there _ a h = absurd cc
 pub command_exact : IsExact command
 unfolding command
 command_exact = choice_exact command_tag _ (
-  is_variant command_tag 0 (λ p. command_is.Write p) command_write write_batch command_write_there (λ a. refl) (λ a. refl) write_batch_exact, (
-  is_variant command_tag 1 (λ p. command_is.Open p) command_open number64 command_open_there (λ a. refl) (λ a. refl) number64_exact, (
-  is_variant command_tag 2 (λ p. command_is.Close p) command_close number64 command_close_there (λ a. refl) (λ a. refl) number64_exact, (
-  is_variant command_tag 3 (λ p. command_is.Expire p) command_expire number64 command_expire_there (λ a. refl) (λ a. refl) number64_exact, tt))))
+  is_variant command_tag 0 (λ p. command_is.Write p) command_write write_batch command_write_there (λ a. refl) (λ a. refl) write_batch_exact,
+  (
+    is_variant command_tag 1 (λ p. command_is.Open p) command_open number64 command_open_there (λ a. refl) (λ a. refl) number64_exact,
+    (
+      is_variant command_tag 2 (λ p. command_is.Close p) command_close number64 command_close_there (λ a. refl) (λ a. refl) number64_exact,
+      (
+        is_variant command_tag 3 (λ p. command_is.Expire p) command_expire number64 command_expire_there (λ a. refl) (λ a. refl) number64_exact,
+        tt,
+      ),
+    ),
+  ),
+)
 
 pub meta_exact : IsExact meta
 unfolding meta
@@ -151,16 +165,36 @@ op_reply_closed_there _ a h = absurd cc
 pub op_reply_exact : IsExact op_reply
 unfolding op_reply
 op_reply_exact = choice_exact op_reply_tag _ (
-  is_variant op_reply_tag 0 (λ p. reply_is.Put p.0 p.1) op_reply_put (pair key meta) op_reply_put_there (λ a. refl) (λ a. refl) (pair_exact key meta key_exact meta_exact), (
-  is_variant op_reply_tag 1 (λ _. reply_is.Deleted) op_reply_deleted empty op_reply_deleted_there (λ a. refl) (λ a. refl) empty_exact, (
-  is_variant op_reply_tag 2 (λ p. reply_is.Ranged p) op_reply_ranged number64 op_reply_ranged_there (λ a. refl) (λ a. refl) number64_exact, (
-  is_variant op_reply_tag 3 (λ _. reply_is.KeyNotFound) op_reply_key_not_found empty op_reply_key_not_found_there (λ a. refl) (λ a. refl) empty_exact, (
-  is_variant op_reply_tag 4 (λ p. reply_is.UnexpectedVersion p) op_reply_unexpected_version (option version) op_reply_unexpected_version_there (λ a. refl) (λ a. refl) (option_exact version version_exact), (
-  is_variant op_reply_tag 5 (λ p. reply_is.SessionDoesNotExist p) op_reply_session_does_not_exist number64 op_reply_session_does_not_exist_there (λ a. refl) (λ a. refl) number64_exact, (
-  is_variant op_reply_tag 6 (λ p. reply_is.ShardFull p.0 p.1) op_reply_shard_full (pair number64 number64) op_reply_shard_full_there (λ a. refl) (λ a. refl) (pair_exact number64 number64 number64_exact number64_exact), (
-  is_variant op_reply_tag 7 (λ p. reply_is.SequenceSpent p) op_reply_sequence_spent number32 op_reply_sequence_spent_there (λ a. refl) (λ a. refl) number32_exact, (
-  is_variant op_reply_tag 8 (λ p. reply_is.Opened p) op_reply_opened number64 op_reply_opened_there (λ a. refl) (λ a. refl) number64_exact, (
-  is_variant op_reply_tag 9 (λ p. reply_is.Closed p) op_reply_closed number64 op_reply_closed_there (λ a. refl) (λ a. refl) number64_exact, tt))))))))))
+  is_variant op_reply_tag 0 (λ p. reply_is.Put p.0 p.1) op_reply_put (pair key meta) op_reply_put_there (λ a. refl) (λ a. refl) (pair_exact key meta key_exact meta_exact),
+  (
+    is_variant op_reply_tag 1 (λ _. reply_is.Deleted) op_reply_deleted empty op_reply_deleted_there (λ a. refl) (λ a. refl) empty_exact,
+    (
+      is_variant op_reply_tag 2 (λ p. reply_is.Ranged p) op_reply_ranged number64 op_reply_ranged_there (λ a. refl) (λ a. refl) number64_exact,
+      (
+        is_variant op_reply_tag 3 (λ _. reply_is.KeyNotFound) op_reply_key_not_found empty op_reply_key_not_found_there (λ a. refl) (λ a. refl) empty_exact,
+        (
+          is_variant op_reply_tag 4 (λ p. reply_is.UnexpectedVersion p) op_reply_unexpected_version (option version) op_reply_unexpected_version_there (λ a. refl) (λ a. refl) (option_exact version version_exact),
+          (
+            is_variant op_reply_tag 5 (λ p. reply_is.SessionDoesNotExist p) op_reply_session_does_not_exist number64 op_reply_session_does_not_exist_there (λ a. refl) (λ a. refl) number64_exact,
+            (
+              is_variant op_reply_tag 6 (λ p. reply_is.ShardFull p.0 p.1) op_reply_shard_full (pair number64 number64) op_reply_shard_full_there (λ a. refl) (λ a. refl) (pair_exact number64 number64 number64_exact number64_exact),
+              (
+                is_variant op_reply_tag 7 (λ p. reply_is.SequenceSpent p) op_reply_sequence_spent number32 op_reply_sequence_spent_there (λ a. refl) (λ a. refl) number32_exact,
+                (
+                  is_variant op_reply_tag 8 (λ p. reply_is.Opened p) op_reply_opened number64 op_reply_opened_there (λ a. refl) (λ a. refl) number64_exact,
+                  (
+                    is_variant op_reply_tag 9 (λ p. reply_is.Closed p) op_reply_closed number64 op_reply_closed_there (λ a. refl) (λ a. refl) number64_exact,
+                    tt,
+                  ),
+                ),
+              ),
+            ),
+          ),
+        ),
+      ),
+    ),
+  ),
+)
 
 pub shard_reply_exact : IsExact shard_reply
 unfolding shard_reply
@@ -189,11 +223,21 @@ compare_higher_there _ a h = absurd cc
 pub compare_exact : IsExact compare
 unfolding compare
 compare_exact = choice_exact compare_tag _ (
-  is_variant compare_tag 0 (λ _. compare_is.Equal) compare_equal empty compare_equal_there (λ a. refl) (λ a. refl) empty_exact, (
-  is_variant compare_tag 1 (λ _. compare_is.Floor) compare_floor empty compare_floor_there (λ a. refl) (λ a. refl) empty_exact, (
-  is_variant compare_tag 2 (λ _. compare_is.Ceiling) compare_ceiling empty compare_ceiling_there (λ a. refl) (λ a. refl) empty_exact, (
-  is_variant compare_tag 3 (λ _. compare_is.Lower) compare_lower empty compare_lower_there (λ a. refl) (λ a. refl) empty_exact, (
-  is_variant compare_tag 4 (λ _. compare_is.Higher) compare_higher empty compare_higher_there (λ a. refl) (λ a. refl) empty_exact, tt)))))
+  is_variant compare_tag 0 (λ _. compare_is.Equal) compare_equal empty compare_equal_there (λ a. refl) (λ a. refl) empty_exact,
+  (
+    is_variant compare_tag 1 (λ _. compare_is.Floor) compare_floor empty compare_floor_there (λ a. refl) (λ a. refl) empty_exact,
+    (
+      is_variant compare_tag 2 (λ _. compare_is.Ceiling) compare_ceiling empty compare_ceiling_there (λ a. refl) (λ a. refl) empty_exact,
+      (
+        is_variant compare_tag 3 (λ _. compare_is.Lower) compare_lower empty compare_lower_there (λ a. refl) (λ a. refl) empty_exact,
+        (
+          is_variant compare_tag 4 (λ _. compare_is.Higher) compare_higher empty compare_higher_there (λ a. refl) (λ a. refl) empty_exact,
+          tt,
+        ),
+      ),
+    ),
+  ),
+)
 
 query_get_there : (x : ShardQuery) (a : Compare × (List ℕ × Option (List ℕ))) → query_get x ≡ Some a → query_is.Get a.0 a.1.0 a.1.1 ≡ x
 query_get_there (query_is.Get c k by) a h =
@@ -219,11 +263,21 @@ query_keep_alive_there _ a h = absurd cc
 pub query_exact : IsExact query
 unfolding query
 query_exact = choice_exact query_tag _ (
-  is_variant query_tag 0 (λ p. query_is.Get p.0 p.1.0 p.1.1) query_get (pair compare (pair key (option index_name))) query_get_there (λ a. refl) (λ a. refl) (pair_exact compare (pair key (option index_name)) compare_exact (pair_exact key (option index_name) key_exact (option_exact index_name index_name_exact))), (
-  is_variant query_tag 1 (λ p. query_is.List p.0 p.1) query_list (pair key_range (option index_name)) query_list_there (λ a. refl) (λ a. refl) (pair_exact key_range (option index_name) key_range_exact (option_exact index_name index_name_exact)), (
-  is_variant query_tag 2 (λ p. query_is.Scan p.0 p.1) query_scan (pair key_range (option index_name)) query_scan_there (λ a. refl) (λ a. refl) (pair_exact key_range (option index_name) key_range_exact (option_exact index_name index_name_exact)), (
-  is_variant query_tag 3 (λ p. query_is.Notices p.0 p.1) query_notices (pair number64 number64) query_notices_there (λ a. refl) (λ a. refl) (pair_exact number64 number64 number64_exact number64_exact), (
-  is_variant query_tag 4 (λ p. query_is.KeepAlive p) query_keep_alive number64 query_keep_alive_there (λ a. refl) (λ a. refl) number64_exact, tt)))))
+  is_variant query_tag 0 (λ p. query_is.Get p.0 p.1.0 p.1.1) query_get (pair compare (pair key (option index_name))) query_get_there (λ a. refl) (λ a. refl) (pair_exact compare (pair key (option index_name)) compare_exact (pair_exact key (option index_name) key_exact (option_exact index_name index_name_exact))),
+  (
+    is_variant query_tag 1 (λ p. query_is.List p.0 p.1) query_list (pair key_range (option index_name)) query_list_there (λ a. refl) (λ a. refl) (pair_exact key_range (option index_name) key_range_exact (option_exact index_name index_name_exact)),
+    (
+      is_variant query_tag 2 (λ p. query_is.Scan p.0 p.1) query_scan (pair key_range (option index_name)) query_scan_there (λ a. refl) (λ a. refl) (pair_exact key_range (option index_name) key_range_exact (option_exact index_name index_name_exact)),
+      (
+        is_variant query_tag 3 (λ p. query_is.Notices p.0 p.1) query_notices (pair number64 number64) query_notices_there (λ a. refl) (λ a. refl) (pair_exact number64 number64 number64_exact number64_exact),
+        (
+          is_variant query_tag 4 (λ p. query_is.KeepAlive p) query_keep_alive number64 query_keep_alive_there (λ a. refl) (λ a. refl) number64_exact,
+          tt,
+        ),
+      ),
+    ),
+  ),
+)
 
 notice_created_there : (x : Notice) (a : List ℕ × ℕ) → notice_created x ≡ Some a → notice_is.Created a.0 a.1 ≡ x
 notice_created_there (notice_is.Created k v) a h = cc
@@ -244,10 +298,18 @@ notice_ranged_there _ a h = absurd cc
 pub notice_exact : IsExact notice
 unfolding notice
 notice_exact = choice_exact notice_tag _ (
-  is_variant notice_tag 0 (λ p. notice_is.Created p.0 p.1) notice_created (pair key version) notice_created_there (λ a. refl) (λ a. refl) (pair_exact key version key_exact version_exact), (
-  is_variant notice_tag 1 (λ p. notice_is.Modified p.0 p.1) notice_modified (pair key version) notice_modified_there (λ a. refl) (λ a. refl) (pair_exact key version key_exact version_exact), (
-  is_variant notice_tag 2 (λ p. notice_is.Deleted p) notice_deleted key notice_deleted_there (λ a. refl) (λ a. refl) key_exact, (
-  is_variant notice_tag 3 (λ p. notice_is.Ranged p) notice_ranged key_range notice_ranged_there (λ a. refl) (λ a. refl) key_range_exact, tt))))
+  is_variant notice_tag 0 (λ p. notice_is.Created p.0 p.1) notice_created (pair key version) notice_created_there (λ a. refl) (λ a. refl) (pair_exact key version key_exact version_exact),
+  (
+    is_variant notice_tag 1 (λ p. notice_is.Modified p.0 p.1) notice_modified (pair key version) notice_modified_there (λ a. refl) (λ a. refl) (pair_exact key version key_exact version_exact),
+    (
+      is_variant notice_tag 2 (λ p. notice_is.Deleted p) notice_deleted key notice_deleted_there (λ a. refl) (λ a. refl) key_exact,
+      (
+        is_variant notice_tag 3 (λ p. notice_is.Ranged p) notice_ranged key_range notice_ranged_there (λ a. refl) (λ a. refl) key_range_exact,
+        tt,
+      ),
+    ),
+  ),
+)
 
 pub notice_item_exact : IsExact notice_item
 unfolding notice_item
@@ -288,10 +350,24 @@ answer_session_does_not_exist_there _ a h = absurd cc
 pub answer_exact : IsExact answer
 unfolding answer
 answer_exact = choice_exact answer_tag _ (
-  is_variant answer_tag 0 (λ p. answer_is.Got p) answer_got (option record_form) answer_got_there (λ a. refl) (λ a. refl) (option_exact record_form record_form_exact), (
-  is_variant answer_tag 1 (λ p. answer_is.Keys p.0 p.1) answer_keys (pair (list key) bool) answer_keys_there (λ a. refl) (λ a. refl) (pair_exact (list key) bool (list_exact key key_exact) bool_exact), (
-  is_variant answer_tag 2 (λ p. answer_is.Records p.0 p.1) answer_records (pair (list record_form) bool) answer_records_there (λ a. refl) (λ a. refl) (pair_exact (list record_form) bool (list_exact record_form record_form_exact) bool_exact), (
-  is_variant answer_tag 3 (λ p. answer_is.Notices p.0 p.1) answer_notices (pair (list notice_item) bool) answer_notices_there (λ a. refl) (λ a. refl) (pair_exact (list notice_item) bool (list_exact notice_item notice_item_exact) bool_exact), (
-  is_variant answer_tag 4 (λ p. answer_is.NotRetained p.0 p.1) answer_not_retained (pair number64 bounded) answer_not_retained_there (λ a. refl) (λ a. refl) (pair_exact number64 bounded number64_exact bounded_exact), (
-  is_variant answer_tag 5 (λ _. answer_is.Alive) answer_alive empty answer_alive_there (λ a. refl) (λ a. refl) empty_exact, (
-  is_variant answer_tag 6 (λ p. answer_is.SessionDoesNotExist p) answer_session_does_not_exist number64 answer_session_does_not_exist_there (λ a. refl) (λ a. refl) number64_exact, tt)))))))
+  is_variant answer_tag 0 (λ p. answer_is.Got p) answer_got (option record_form) answer_got_there (λ a. refl) (λ a. refl) (option_exact record_form record_form_exact),
+  (
+    is_variant answer_tag 1 (λ p. answer_is.Keys p.0 p.1) answer_keys (pair (list key) bool) answer_keys_there (λ a. refl) (λ a. refl) (pair_exact (list key) bool (list_exact key key_exact) bool_exact),
+    (
+      is_variant answer_tag 2 (λ p. answer_is.Records p.0 p.1) answer_records (pair (list record_form) bool) answer_records_there (λ a. refl) (λ a. refl) (pair_exact (list record_form) bool (list_exact record_form record_form_exact) bool_exact),
+      (
+        is_variant answer_tag 3 (λ p. answer_is.Notices p.0 p.1) answer_notices (pair (list notice_item) bool) answer_notices_there (λ a. refl) (λ a. refl) (pair_exact (list notice_item) bool (list_exact notice_item notice_item_exact) bool_exact),
+        (
+          is_variant answer_tag 4 (λ p. answer_is.NotRetained p.0 p.1) answer_not_retained (pair number64 bounded) answer_not_retained_there (λ a. refl) (λ a. refl) (pair_exact number64 bounded number64_exact bounded_exact),
+          (
+            is_variant answer_tag 5 (λ _. answer_is.Alive) answer_alive empty answer_alive_there (λ a. refl) (λ a. refl) empty_exact,
+            (
+              is_variant answer_tag 6 (λ p. answer_is.SessionDoesNotExist p) answer_session_does_not_exist number64 answer_session_does_not_exist_there (λ a. refl) (λ a. refl) number64_exact,
+              tt,
+            ),
+          ),
+        ),
+      ),
+    ),
+  ),
+)

@@ -56,10 +56,9 @@ pub(crate) fn put_by(by: &Option<Octets>, to: &mut Writer) -> Result<(), NoMemor
 pub(crate) fn take_by(from: &mut Reader<'_>) -> Result<Option<Octets>, FieldFault>
     ensures { Gives result from.new ((option index_name).at from.old) }
 {
-    if from.take_tag(2)? == 0 {
-        Ok(None)
-    } else {
-        Ok(Some(take_name(from)?))
+    match from.take_tag(2)? {
+        0 => Ok(None),
+        _ => Ok(Some(take_name(from)?)),
     }
 }
 

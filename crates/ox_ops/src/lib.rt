@@ -7,6 +7,7 @@ mod fields;
 mod notice;
 mod query;
 mod reply;
+mod rules;
 mod write;
 
 pub use answer::{Record, ShardAnswer};
@@ -19,4 +20,5 @@ pub use ox_order::{Hi, KeyRange, Lo};
 pub use ox_types::{Bad, MachineFault, Part, Rule};
 pub use query::{Compare, ShardQuery};
 pub use reply::{Meta, OpReply, ShardReply};
+pub use rules::check;
 pub use write::{Delete, Expect, IndexEntry, Put, ShardCommand, WriteBatch};

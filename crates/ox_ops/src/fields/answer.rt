@@ -28,7 +28,13 @@ impl Field for Record {
         let meta = Field::take(from)?;
         let session = Field::take(from)?;
         let indexes = Field::take(from)?;
-        Ok(Record { key, value, meta, session, indexes })
+        Ok(Record {
+            key,
+            value,
+            meta,
+            session,
+            indexes,
+        })
     }
 }
 

@@ -26,7 +26,12 @@ impl Field for Meta {
         let modifications = from.take_u64()?;
         let created = from.take_u64_to(TIME_LIMIT)?;
         let modified = from.take_u64_to(TIME_LIMIT)?;
-        Ok(Meta { version, modifications, created, modified })
+        Ok(Meta {
+            version,
+            modifications,
+            created,
+            modified,
+        })
     }
 }
 

@@ -83,7 +83,14 @@ impl Field for Put {
         let session = Field::take(from)?;
         let deltas = Field::take(from)?;
         let indexes = Field::take(from)?;
-        Ok(Put { key, value, expect, session, deltas, indexes })
+        Ok(Put {
+            key,
+            value,
+            expect,
+            session,
+            deltas,
+            indexes,
+        })
     }
 }
 
@@ -129,7 +136,11 @@ impl Field for WriteBatch {
         let puts = Field::take(from)?;
         let deletes = Field::take(from)?;
         let ranges = Field::take(from)?;
-        Ok(WriteBatch { puts, deletes, ranges })
+        Ok(WriteBatch {
+            puts,
+            deletes,
+            ranges,
+        })
     }
 }
 
