@@ -108,3 +108,8 @@ command_fault (Write b) = batch_fault b (length (command.text (Write b)))
 command_fault (Open timeout) = timeout_fault timeout
 command_fault (Close id) = None
 command_fault (Expire id) = Some (bad_batch rule.Expire)
+
+-- is it a write?
+abbrev pub is_write : ShardCommand → Bool
+is_write (Write b) = true
+is_write _ = false

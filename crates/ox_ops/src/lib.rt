@@ -22,3 +22,6 @@ pub use query::{Compare, ShardQuery};
 pub use reply::{Meta, OpReply, ShardReply};
 pub use rules::check;
 pub use write::{Delete, Expect, IndexEntry, Put, ShardCommand, WriteBatch};
+
+#[cfg(test)]
+mod tests;

@@ -1,7 +1,7 @@
-ghost use Rattle.std.specs.Prelude.{◌≡◌, ◌≤◌, ◌+◌, IsTrue, IfOk, Option, length};
+ghost use Rattle.std.specs.Prelude.{◌≡◌, ◌≤◌, ◌+◌, IsTrue, IfOk, OnErr, Option, length};
 ghost use Rattle.std.specs.List.{list_any};
 ghost use Rattle.ox_ops.specs.Forms.{command as command_form};
-ghost use Rattle.ox_ops.specs.Check.{same_entry, has_repeated, begins_with_0, is_any, put_fault, put_faults, is_many, operations_in, batch_fault, timeout_fault, command_fault};
+ghost use Rattle.ox_ops.specs.Check.{same_entry, has_repeated, begins_with_0, is_any, put_fault, put_faults, is_many, operations_in, batch_fault, timeout_fault, command_fault, is_write};
 
 use crate::codec::encode_command;
 use crate::write::{Expect, IndexEntry, Put, ShardCommand, WriteBatch};
@@ -162,7 +162,9 @@ fn check_timeout(timeout: u64) -> Option<Bad>
 #[tactic(auto, unfolding(crate::specs::Check::command_fault))]
 pub fn check(alloc: Global, command: &ShardCommand) -> Result<Option<Bad>, NoMemory>
     requires { IsTrue (command_form.is_lawful command.now) }
-    ensures { IfOk result (λ fault. fault ≡ command_fault command.now) }
+    ensures fault { IfOk result (λ fault. fault ≡ command_fault command.now) }
+    // Only a write takes memory.
+    ensures memory { OnErr result (IsTrue (is_write command.now)) }
 {
     match command {
         ShardCommand::Write(batch) => {
