@@ -19,8 +19,8 @@ pub(crate) const VERSION_LIMIT: u64 = 9_223_372_036_854_775_807;
 /// The most that a time is: 2^53.
 pub(crate) const TIME_LIMIT: u64 = 9_007_199_254_740_992;
 
-/// The most that an offset is: 2^53.
-pub(crate) const OFFSET_LIMIT: u64 = 9_007_199_254_740_992;
+/// The most that the offset of an entry is: 2^53 - 1.
+pub(crate) const OFFSET_LIMIT: u64 = 9_007_199_254_740_991;
 
 /// The most bytes of an index's name.
 const NAME_LIMIT: usize = 255;

@@ -59,7 +59,10 @@ fn queries_replies_and_answers_have_their_texts(rt: HostRuntime) -> Result<(), F
     let text = [0, 0, 0, 1, 7, 0, 0, 0, 3];
     assert_eq!(rt; encode_reply(alloc, &reply)?.as_slice(), text.as_slice());
     decode_reply(alloc, &text)?;
-    let answer = ShardAnswer::Keys { keys: List::new(alloc), more: true };
+    let answer = ShardAnswer::Keys {
+        keys: List::new(alloc),
+        more: true,
+    };
     let text = [1, 0, 0, 0, 0, 1];
     assert_eq!(rt; encode_answer(alloc, &answer)?.as_slice(), text.as_slice());
     decode_answer(alloc, &text)?;
@@ -96,7 +99,12 @@ fn the_first_fault_of_a_put_counts(rt: HostRuntime) -> Result<(), Fail> {
 #[test]
 fn a_timeout_has_its_bounds(rt: HostRuntime) -> Result<(), Fail> {
     let alloc = rt.alloc();
-    for (timeout, fits) in [(999, false), (1000, true), (600_000, true), (600_001, false)] {
+    for (timeout, fits) in [
+        (999, false),
+        (1000, true),
+        (600_000, true),
+        (600_001, false),
+    ] {
         let fault = check(alloc, &ShardCommand::Open { timeout })?;
         assert_eq!(rt; fault.is_none(), fits);
     }

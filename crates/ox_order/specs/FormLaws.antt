@@ -1,8 +1,8 @@
 -- The forms of ranges are exact.
-use Rattle.std.proofs.Common.{◌≡◌, ℕ, List, [], ◌∷◌, Option, Some, None, refl}
-use Rattle.ox_bytes.specs.Form.{Form, IsExact, pair, struct_of, empty, variant}
+use Rattle.std.proofs.Common.{◌≡◌, ℕ, List, Some, refl}
+use Rattle.ox_bytes.specs.Form.{IsExact, pair, empty}
 use Rattle.ox_bytes.specs.FormLaws.{empty_exact, is_variant, pair_exact, struct_exact}
-use Rattle.ox_bytes.specs.Fields.{key, choice}
+use Rattle.ox_bytes.specs.Fields.{key}
 use Rattle.ox_bytes.specs.FieldLaws.{key_exact, choice_exact}
 use Rattle.ox_order.specs.declared.range.Lo.{Lo}
 use Rattle.ox_order.specs.declared.range.Lo.TheVariants.{Start, At, Past}

@@ -1,4 +1,4 @@
-use Rattle.std.proofs.Common.{[], ◌∷◌, append_assoc}
+use Rattle.std.proofs.Common.{append_assoc}
 use Rattle.ox_order.specs.Forms.{lo}
 use Rattle.ox_order.proofs.fields.LoField.put.Goals as goal
 

@@ -1,4 +1,4 @@
-use Rattle.std.proofs.Common.{◌≡◌, true, [], ◌∷◌, subst, append_assoc}
+use Rattle.std.proofs.Common.{◌≡◌, true, subst, append_assoc}
 use Rattle.std.proofs.lemmas.Bool.{and_parts}
 use Rattle.ox_bytes.specs.Fields.{list, bool}
 use Rattle.ox_ops.specs.Forms.{record_form, answer}

@@ -1,4 +1,3 @@
-use Rattle.std.proofs.Common.{[], ◌∷◌, append_assoc}
 use Rattle.ox_ops.specs.Forms.{compare}
 use Rattle.ox_ops.proofs.fields.query.CompareField.put.Goals as goal
 

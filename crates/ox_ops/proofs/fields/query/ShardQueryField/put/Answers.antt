@@ -1,4 +1,4 @@
-use Rattle.std.proofs.Common.{◌≡◌, true, [], ◌∷◌, subst, append_assoc}
+use Rattle.std.proofs.Common.{◌≡◌, true, subst, append_assoc}
 use Rattle.std.proofs.lemmas.Bool.{and_parts}
 use Rattle.ox_bytes.specs.Fields.{is_option}
 use Rattle.ox_order.specs.Forms.{key_range}

@@ -1,4 +1,4 @@
-use Rattle.std.proofs.Common.{[], ◌∷◌, append_assoc}
+use Rattle.std.proofs.Common.{append_assoc}
 use Rattle.ox_ops.specs.Forms.{op_reply}
 use Rattle.ox_ops.proofs.fields.reply.OpReplyField.put.Goals as goal
 

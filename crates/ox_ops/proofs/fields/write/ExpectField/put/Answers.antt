@@ -1,4 +1,4 @@
-use Rattle.std.proofs.Common.{[], ◌∷◌, append_assoc}
+use Rattle.std.proofs.Common.{append_assoc}
 use Rattle.ox_ops.specs.Forms.{expect}
 use Rattle.ox_ops.proofs.fields.write.ExpectField.put.Goals as goal
 

@@ -1,4 +1,3 @@
-use Rattle.std.proofs.Common.{◌≡◌, true, [], ◌∷◌, subst, append_assoc}
 use Rattle.std.proofs.lemmas.Bool.{and_parts}
 use Rattle.ox_bytes.specs.Fields.{number64, key, value, option, list}
 use Rattle.ox_bytes.specs.Form.{pair}

@@ -1,4 +1,4 @@
-use Rattle.std.proofs.Common.{[], ◌∷◌, append_assoc}
+use Rattle.std.proofs.Common.{append_assoc}
 use Rattle.ox_ops.specs.Forms.{command}
 use Rattle.ox_ops.proofs.fields.write.ShardCommandField.put.Goals as goal
 
