@@ -1,6 +1,7 @@
-//! The order of keys, and ranges of keys. No call takes memory.
+//! The order of keys, and ranges of keys. No call takes memory but those that read and write ranges as bytes.
 #![tactic(auto)]
 
+mod fields;
 mod laws;
 mod order;
 mod range;
