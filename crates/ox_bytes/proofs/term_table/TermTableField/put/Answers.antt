@@ -1,4 +1,4 @@
-use Rattle.std.proofs.Common.{◌≡◌, ℕ, List, refl, sym, ap, append_assoc}
+use Rattle.std.proofs.Common.{◌≡◌, ℕ, List, refl, sym, append_assoc}
 use Rattle.std.specs.List.{flat_map}
 use Rattle.ox_types.specs.declared.log.TermRun.{TermRun}
 use Rattle.ox_bytes.specs.Lists.{course_text}
