@@ -1,0 +1,17 @@
+//! Schedules as data, their reader, which is exact to the line and rule, and the writer of an event's line.
+#![tactic(auto)]
+
+mod escape;
+mod fault;
+mod field;
+mod law;
+mod line;
+mod reading;
+mod schedule;
+mod shape;
+mod word;
+
+pub use fault::{LineFault, ScheduleFault};
+pub use law::{law_line, law_one_schedule, law_schedule, law_shape};
+pub use reading::read_schedule;
+pub use schedule::{Event, First, Grouping, Places, Request, Schedule};
