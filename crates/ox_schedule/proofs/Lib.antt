@@ -9,3 +9,4 @@ mod LineLemmas
 mod TextLemmas
 mod ScheduleLemmas
 mod ShapeLemmas
+mod WriterLemmas
