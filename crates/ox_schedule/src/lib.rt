@@ -17,3 +17,6 @@ pub use law::{law_line, law_one_schedule, law_schedule, law_shape};
 pub use reading::read_schedule;
 pub use schedule::{Event, First, Grouping, Places, Request, Schedule};
 pub use writer::{add_event, add_key, add_value};
+
+#[cfg(test)]
+mod tests;

@@ -312,15 +312,18 @@ fn add_client(
     add_request(alloc, text, request)
 }
 
-/// Adds the line of an event, without a line feed: the line that is read as that event. It costs the line, and takes
-/// memory for the text of its longest key or value too. Where memory runs out, a front of the line may have been added.
+/// Adds the line of an event, without a line feed: the line that is read as that event. It costs the line, which is made
+/// in memory of its own first. Where memory runs out, nothing is added.
 pub fn add_event(alloc: Global, text: &mut Octets, event: &Event) -> Result<(), NoMemory>
-    ensures { OnOk result (text.new ≡ text.old ++ event_line event.now) }
+    ensures ok { OnOk result (text.new ≡ text.old ++ event_line event.now) }
+    ensures err { OnErr result (text.new ≡ text.old) }
 {
     let Event::Client {
         node,
         shard,
         request,
     } = event;
-    add_client(alloc, text, *node, *shard, request)
+    let mut line = Octets::new(alloc);
+    add_client(alloc, &mut line, *node, *shard, request)?;
+    text.extend(line.as_slice())
 }
