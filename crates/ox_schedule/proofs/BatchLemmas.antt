@@ -1,5 +1,5 @@
 -- A batch that is read is the one that was written, and the other way round.
-use Rattle.std.proofs.Common.{◌+◌, ◌≡◌, ◌∙◌, ◌<◌, ℕ, suc, ◌++◌, Bool, true, false, not, ◌&&◌, eqb, cond, List, [], ◌∷◌, length, map, codes, Ok, Option, Some, None, inl, inr, refl, sym, ap, subst, arith, append_assoc}
+use Rattle.std.proofs.Common.{◌+◌, ◌≡◌, ◌∙◌, ◌<◌, ℕ, ◌++◌, Bool, true, false, not, ◌&&◌, eqb, cond, List, [], ◌∷◌, length, map, codes, Ok, inl, inr, refl, sym, ap, subst, arith, append_assoc}
 use Rattle.std.specs.Str.{bytes_eq}
 use Rattle.std.specs.List.{list_all, onto_first}
 use Rattle.std.proofs.lemmas.Bool.{eqb-true, ne_eqb}

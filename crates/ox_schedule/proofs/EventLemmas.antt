@@ -1,5 +1,5 @@
 -- An event that is read is the one that was written, and the other way round.
-use Rattle.std.proofs.Common.{◌≡◌, ◌∙◌, ℕ, suc, ◌++◌, Bool, true, false, not, ◌&&◌, leb, eqb, cond, List, [], ◌∷◌, length, map, codes, decimal, Option, None, Some, Ok, Err, inl, inr, refl, sym, ap, subst, arith}
+use Rattle.std.proofs.Common.{◌≡◌, ◌∙◌, ℕ, suc, ◌++◌, Bool, true, ◌&&◌, leb, cond, List, [], ◌∷◌, length, map, codes, decimal, None, Ok, Err, inl, inr, refl, ap, subst, arith}
 use Rattle.std.specs.Prelude.{is_none}
 use Rattle.std.specs.Str.{bytes_eq}
 use Rattle.std.specs.List.{list_all}
@@ -12,13 +12,10 @@ use Rattle.ox_ops.specs.declared.write.Expect.TheVariants.{Any, Absent, Exactly}
 use Rattle.ox_ops.specs.declared.write.Put.{Put}
 use Rattle.ox_ops.specs.declared.write.Delete.{Delete}
 use Rattle.ox_ops.specs.declared.write.WriteBatch.{WriteBatch}
-use Rattle.ox_ops.specs.declared.write.ShardCommand.{ShardCommand}
 use Rattle.ox_ops.specs.declared.write.ShardCommand.TheVariants as command
 use Rattle.ox_ops.specs.declared.query.Compare.{Compare}
 use Rattle.ox_ops.specs.declared.query.Compare.TheVariants.{Equal, Floor, Ceiling, Lower, Higher}
-use Rattle.ox_ops.specs.declared.query.ShardQuery.{ShardQuery}
 use Rattle.ox_ops.specs.declared.query.ShardQuery.TheVariants as query
-use Rattle.ox_schedule.specs.declared.schedule.Grouping.{Grouping}
 use Rattle.ox_schedule.specs.declared.schedule.Grouping.TheVariants as grouping
 use Rattle.ox_schedule.specs.declared.schedule.Request.{Request}
 use Rattle.ox_schedule.specs.declared.schedule.Request.TheVariants.{Write, Read}
@@ -27,8 +24,8 @@ use Rattle.ox_schedule.specs.declared.schedule.Event.TheVariants.{Client}
 use Rattle.ox_schedule.specs.declared.schedule.Places.{Places}
 use Rattle.ox_schedule.specs.Outcome.{◌>>=◌}
 use Rattle.ox_schedule.specs.Shape.{op_fits, write_fits, request_fits, event_fits, is_compare}
-use Rattle.ox_schedule.specs.Spelling.{is_number, is_node, is_shard, is_put, is_delete, is_range, is_command, is_query, is_request, is_event, put_op, delete_op, range_op, batch_ops, joined, are_lawful, is_grouped, expect_words, compare_word, request_words, event_words}
-use Rattle.ox_schedule.specs.Reading.{word_at, number_of, range_of, empty_batch, with_put, with_delete, with_range, op_onto, request_of, node_at, shard_at, client_of, event_of}
+use Rattle.ox_schedule.specs.Spelling.{is_number, is_node, is_shard, is_put, is_delete, is_range, is_request, is_event, put_op, delete_op, range_op, batch_ops, joined, are_lawful, expect_words, compare_word, request_words, event_words}
+use Rattle.ox_schedule.specs.Reading.{word_at, number_of, empty_batch, with_put, with_delete, with_range, op_onto, request_of, node_at, shard_at, client_of, event_of}
 use Rattle.ox_schedule.proofs.Words.{both, two, number_is, number_again}
 use Rattle.ox_schedule.proofs.Fields.{bind_ok, chosen, word_is, no_value, put_again, delete_again, range_is, range_again, get_is, get_again}
 use Rattle.ox_schedule.proofs.BatchLemmas.{verb_is, batch_is, batch_again, batch_split, alone_is, alone_cases}

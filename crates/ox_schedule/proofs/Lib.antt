@@ -10,3 +10,5 @@ mod TextLemmas
 mod ScheduleLemmas
 mod ShapeLemmas
 mod WriterLemmas
+mod LawfulLemmas
+mod BadLineLemmas

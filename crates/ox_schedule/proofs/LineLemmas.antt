@@ -1,5 +1,5 @@
 -- The reader of a line answers an event exactly where the line spells it.
-use Rattle.std.proofs.Common.{◌≡◌, ◌∙◌, ℕ, Bool, true, false, not, codes, decimal, eqb, cond, List, [], ◌∷◌, length, Ok, Err, inl, inr, refl, sym, ap, subst, arith}
+use Rattle.std.proofs.Common.{◌≡◌, ◌∙◌, ℕ, true, false, not, codes, decimal, eqb, cond, List, ◌∷◌, length, Ok, Err, inl, inr, refl, sym, ap, subst, arith}
 use Rattle.std.specs.List.{list_all, join_with_byte}
 use Rattle.ox_types.specs.declared.ended.LineRule.TheVariants as rule
 use Rattle.ox_schedule.specs.declared.schedule.Event.{Event}
@@ -42,7 +42,7 @@ event_some : (e : Event) → eqb (length (event_line e)) 0 ≡ false
 unfolding event_line
 event_some (Client node shard r) = some_line (codes "client") (decimal node) (decimal shard ∷ request_words r)
 
-own_line : (places : Places) (e : Event) → is_event places e ≡ true → line_at places (event_line e) ≡ Ok e
+pub own_line : (places : Places) (e : Event) → is_event places e ≡ true → line_at places (event_line e) ≡ Ok e
 unfolding line_at
 own_line places e h = rw (event_some e, event_split places e h, event_are_words places e h, event_has_shape places e h, event_again places e h) refl
 

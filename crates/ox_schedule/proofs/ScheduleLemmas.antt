@@ -1,8 +1,7 @@
 -- The reader of a schedule answers one exactly where the bytes spell it.
-use Rattle.std.proofs.Common.{◌≡◌, ◌∙◌, ℕ, ◌+◌, ◌<◌, Bool, true, false, not, eqb, cond, List, [], ◌∷◌, ◌++◌, length, map, slice_get, Some, codes, decimal, Result, Ok, Err, inl, inr, refl, sym, ap, subst, arith, append_assoc}
+use Rattle.std.proofs.Common.{◌≡◌, ◌∙◌, ℕ, ◌+◌, true, false, not, eqb, cond, List, [], ◌∷◌, ◌++◌, length, map, codes, decimal, Result, Ok, Err, inl, inr, refl, sym, ap, subst, arith, append_assoc}
 use Rattle.std.specs.List.{list_all, join_with_byte}
 use Rattle.std.specs.Str.{bytes_eq}
-use Rattle.std.proofs.lemmas.Grind.{common_steps}
 use Rattle.std.proofs.lemmas.Bool.{eqb-true}
 use Rattle.ox_types.specs.declared.ended.LineRule.{LineRule}
 use Rattle.ox_types.specs.declared.ended.LineRule.TheVariants as rule
@@ -16,7 +15,7 @@ use Rattle.std.specs.Prelude.{IfOk}
 use Rattle.ox_schedule.specs.Outcome.{◌>>=◌}
 use Rattle.ox_schedule.specs.Spelling.{is_event, event_line, is_word, words_of, SpellsEvent}
 use Rattle.ox_schedule.specs.Reading.{number_of, line_at}
-use Rattle.ox_schedule.specs.Schedule.{Answers, IsSchedule, SpellsSchedule, lines_of, places_of, is_first, first_words, first_line, at_line, with_front, event_then, events_at, first_of, first_at, schedule_with, behind_first, schedule_in, schedule_at}
+use Rattle.ox_schedule.specs.Schedule.{Answers, SpellsSchedule, lines_of, places_of, is_first, first_words, first_line, at_line, with_front, event_then, events_at, first_of, first_at, schedule_with, behind_first, schedule_in, schedule_at}
 use Rattle.ox_schedule.proofs.Words.{both, two, same_bytes, number_is, number_again}
 use Rattle.ox_schedule.proofs.Fields.{bind_ok, chosen}
 use Rattle.ox_schedule.proofs.JoinLemmas.{words_joined, line_joined, some_line}
@@ -79,7 +78,7 @@ found : (line : List ℕ) (f : First) → first_of (words_of line) ≡ Ok f → 
 unfolding first_line
 found line f h = let x = first_of_is (words_of line) f h in (line_joined line ∙ ap (join_with_byte 32) x.0, x.1)
 
-first_found : (line : List ℕ) (f : First) → first_at line ≡ Ok f → (line ≡ first_line f) × (is_first f ≡ true)
+pub first_found : (line : List ℕ) (f : First) → first_at line ≡ Ok f → (line ≡ first_line f) × (is_first f ≡ true)
 unfolding first_at
 first_found line f h =
     elim (chosen (eqb (length line) 0) (Err rule.First) (cond (not (list_all is_word (words_of line))) (Err rule.Bytes) (first_of (words_of line))) (Ok f) h) [
@@ -102,7 +101,7 @@ first_some : (s : ℕ) → eqb (length (first_line (Solo s))) 0 ≡ false
 unfolding first_line
 first_some s = some_line (codes "solo") (decimal s) []
 
-own_first : (f : First) → is_first f ≡ true → first_at (first_line f) ≡ Ok f
+pub own_first : (f : First) → is_first f ≡ true → first_at (first_line f) ≡ Ok f
 unfolding first_at
 own_first (Solo s) h = let x = solo_again s h in rw (first_some s, first_split s x.0, x.0, x.1) refl
 

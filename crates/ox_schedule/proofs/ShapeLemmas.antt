@@ -1,7 +1,8 @@
--- A line of the right shape is never faulted by its shape.
-use Rattle.std.proofs.Common.{◌≡◌, ◌∙◌, ◌<◌, ◌≤◌, ℕ, suc, Bool, true, false, ◌&&◌, ◌||◌, cond, List, [], ◌∷◌, ◌++◌, length, codes, decimal, Result, Ok, Err, Option, Some, None, ◌⊎◌, inl, inr, refl, sym, ap, subst, arith}
+-- A line of the right shape breaks only rules of single words: so `bytes` and `word` say exactly what is wrong.
+use Rattle.std.proofs.Common.{◌≢◌, not, eqb, ◌≡◌, ◌∙◌, ◌<◌, ◌≤◌, ℕ, suc, Bool, true, false, ◌&&◌, ◌||◌, cond, List, [], ◌∷◌, length, codes, decimal, Result, Ok, Err, Option, Some, None, ◌⊎◌, inl, inr, refl, sym, ap, subst, arith}
 use Rattle.std.specs.Str.{bytes_eq}
 use Rattle.std.specs.List.{list_all}
+use Rattle.std.proofs.lemmas.Grind.{common_steps}
 use Rattle.std.proofs.lemmas.Bool.{cases_Bool, leb-true, eqb-true}
 use Rattle.ox_types.specs.declared.ended.LineRule.{LineRule}
 use Rattle.ox_types.specs.declared.ended.LineRule.TheVariants as rule
@@ -13,19 +14,18 @@ use Rattle.ox_order.specs.declared.range.Hi.TheVariants.{End, Before}
 use Rattle.ox_ops.specs.declared.write.Expect.TheVariants.{Absent, Exactly}
 use Rattle.percent_encoding.specs.Percent.{percent_decode}
 use Rattle.std.specs.Str.Parse.{digits_value}
-use Rattle.ox_schedule.specs.Spelling.{spelt, value_word, is_key, is_value, is_number, is_empty, is_node, is_shard}
-use Rattle.ox_schedule.specs.declared.schedule.Event.{Event}
+use Rattle.ox_schedule.specs.Spelling.{spelt, value_word, is_key, is_value, is_number, is_empty, is_node, is_shard, is_word, words_of}
 use Rattle.ox_schedule.proofs.EventLemmas.{node_is, shard_is}
 use Rattle.ox_schedule.specs.Outcome.{◌>>=◌, said}
 use Rattle.ox_schedule.specs.Shape.{ops_in, is_compare, write_fits, op_fits, get_fits, request_fits, client_fits, event_fits}
-use Rattle.ox_schedule.specs.Reading.{after, word_at, number_of, key_of, key_at, value_of, value_guess, value_at, expect_of, expect_given, expect_at, options_end, lo_given, lo_of, hi_of, compare_of, range_of, put_of, delete_of, get_of, with_put, with_delete, with_range, op_onto, ops_onto, batch_of, request_of, node_at, shard_at, client_of, event_of, empty_batch}
+use Rattle.ox_schedule.specs.Reading.{after, word_at, number_of, key_of, key_at, value_of, value_guess, value_at, expect_of, expect_given, expect_at, options_end, lo_given, lo_of, hi_of, compare_of, range_of, put_of, delete_of, get_of, with_put, with_delete, op_onto, ops_onto, batch_of, request_of, node_at, shard_at, client_of, event_of, line_at, empty_batch}
 use Rattle.ox_schedule.proofs.Words.{both, same_bytes}
 use Rattle.ox_schedule.proofs.Fields.{word_is, key_at_is}
 
 abbrev kept : LineRule → Bool
 kept rule.Word = false
-kept rule.Bytes = true
-kept rule.First = true
+kept rule.Bytes = false
+kept rule.First = false
 kept rule.Number = true
 kept rule.Name = true
 kept rule.Key = true
@@ -276,5 +276,44 @@ unfolding event_fits event_of
 event_fine p [] h = absurd cc
 event_fine p (v ∷ ws) h = let x = both (bytes_eq v (codes "client")) _ h in rw x.0 (client_fine p ws x.1)
 
-pub event_not_word : (p : Places) (ws : List (List ℕ)) → event_fits ws ≡ true → event_of p ws ≡ Err rule.Word → ⊥
-event_not_word p ws h e = let never : true ≡ fine {A = Event} (Err rule.Word) = sym (event_fine p ws h).is ∙ ap fine e in cc
+-- ---- what the rules of a whole line say
+
+not_kept : (p : Places) (ws : List (List ℕ)) (r : LineRule) → event_fits ws ≡ true → kept r ≡ false → event_of p ws ≡ Err r → ⊥
+not_kept p ws r h k e = let never : true ≡ kept r = sym (event_fine p ws h).is ∙ ap fine e in cc
+
+line_is : (p : Places) (b : ℕ) (line : List ℕ) → line_at p (b ∷ line) ≡ cond (not (list_all is_word (words_of (b ∷ line)))) (Err rule.Bytes) (cond (event_fits (words_of (b ∷ line))) (event_of p (words_of (b ∷ line))) (Err rule.Word))
+unfolding line_at
+line_is p b line = let some : eqb (suc (length line)) 0 ≡ false = grind (arith, common_steps) in rw some refl
+
+bytes_found : (p : Places) (ws : List (List ℕ)) (x y : Bool) → event_fits ws ≡ y → cond (not x) (Err rule.Bytes) (cond y (event_of p ws) (Err rule.Word)) ≡ Err rule.Bytes → x ≡ false
+bytes_found p ws false y fits e = refl
+bytes_found p ws true false fits e = absurd cc
+bytes_found p ws true true fits e = absurd (not_kept p ws rule.Bytes fits refl e)
+
+word_found : (p : Places) (ws : List (List ℕ)) (x y : Bool) → event_fits ws ≡ y → cond (not x) (Err rule.Bytes) (cond y (event_of p ws) (Err rule.Word)) ≡ Err rule.Word → (x ≡ true) × (y ≡ false)
+word_found p ws false y fits e = absurd cc
+word_found p ws true false fits e = (refl, refl)
+word_found p ws true true fits e = absurd (not_kept p ws rule.Word fits refl e)
+
+pub bytes_rule : (p : Places) (line : List ℕ) → line_at p line ≡ Err rule.Bytes → (line ≢ []) × (list_all is_word (words_of line) ≡ false)
+unfolding line_at
+bytes_rule p [] e = absurd cc
+bytes_rule p (b ∷ line) e = (λ h. cc, bytes_found p (words_of (b ∷ line)) (list_all is_word (words_of (b ∷ line))) (event_fits (words_of (b ∷ line))) refl (sym (line_is p b line) ∙ e))
+
+pub bytes_again : (p : Places) (line : List ℕ) → line ≢ [] → list_all is_word (words_of line) ≡ false → line_at p line ≡ Err rule.Bytes
+bytes_again p [] some h = absurd (some refl)
+bytes_again p (b ∷ line) some h = line_is p b line ∙ rw h refl
+
+pub word_rule : (p : Places) (line : List ℕ) → line_at p line ≡ Err rule.Word → (line ≡ []) ⊎ ((list_all is_word (words_of line) ≡ true) × (event_fits (words_of line) ≡ false))
+word_rule p [] e = inl refl
+word_rule p (b ∷ line) e = inr (word_found p (words_of (b ∷ line)) (list_all is_word (words_of (b ∷ line))) (event_fits (words_of (b ∷ line))) refl (sym (line_is p b line) ∙ e))
+
+shaped_wrong : (p : Places) (line : List ℕ) → list_all is_word (words_of line) ≡ true → event_fits (words_of line) ≡ false → line_at p line ≡ Err rule.Word
+unfolding line_at
+shaped_wrong p [] words fits = refl
+shaped_wrong p (b ∷ line) words fits = line_is p b line ∙ rw (words, fits) refl
+
+pub word_again : (p : Places) (line : List ℕ) → (line ≡ []) ⊎ ((list_all is_word (words_of line) ≡ true) × (event_fits (words_of line) ≡ false)) → line_at p line ≡ Err rule.Word
+unfolding line_at
+word_again p line (inl e) = subst (λ (l : List ℕ). line_at p l ≡ Err rule.Word) (sym e) refl
+word_again p line (inr h) = shaped_wrong p line h.0 h.1

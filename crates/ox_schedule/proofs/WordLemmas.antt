@@ -1,5 +1,5 @@
 -- What an event spells is words: printable, and not empty.
-use Rattle.std.proofs.Common.{◌≡◌, ◌∙◌, ◌<◌, ◌+◌, ◌%◌, ◌^◌, ℕ, suc, ◌++◌, Bool, true, false, ◌&&◌, eqb, cond, List, [], ◌∷◌, length, map, codes, decimal, Option, Some, None, inl, inr, refl, subst, arith}
+use Rattle.std.proofs.Common.{◌≡◌, ◌∙◌, ◌<◌, ◌+◌, ◌%◌, ◌^◌, ℕ, suc, ◌++◌, Bool, true, false, ◌&&◌, eqb, cond, List, [], ◌∷◌, length, map, codes, decimal, inl, inr, refl, subst, arith}
 use Rattle.std.specs.Prelude.{is_none}
 use Rattle.std.specs.List.{list_all, flat_map, All}
 use Rattle.std.proofs.lemmas.Grind.{common_steps}
@@ -21,13 +21,10 @@ use Rattle.ox_ops.specs.declared.write.Expect.TheVariants.{Any, Absent, Exactly}
 use Rattle.ox_ops.specs.declared.write.Put.{Put}
 use Rattle.ox_ops.specs.declared.write.Delete.{Delete}
 use Rattle.ox_ops.specs.declared.write.WriteBatch.{WriteBatch}
-use Rattle.ox_ops.specs.declared.write.ShardCommand.{ShardCommand}
 use Rattle.ox_ops.specs.declared.write.ShardCommand.TheVariants as command
 use Rattle.ox_ops.specs.declared.query.Compare.{Compare}
 use Rattle.ox_ops.specs.declared.query.Compare.TheVariants.{Equal, Floor, Ceiling, Lower, Higher}
-use Rattle.ox_ops.specs.declared.query.ShardQuery.{ShardQuery}
 use Rattle.ox_ops.specs.declared.query.ShardQuery.TheVariants as query
-use Rattle.ox_schedule.specs.declared.schedule.Grouping.{Grouping}
 use Rattle.ox_schedule.specs.declared.schedule.Grouping.TheVariants as grouping
 use Rattle.ox_schedule.specs.declared.schedule.Request.{Request}
 use Rattle.ox_schedule.specs.declared.schedule.Request.TheVariants.{Write, Read}

@@ -1,5 +1,5 @@
 -- What one word says is what it spells.
-use Rattle.std.proofs.Common.{◌≡◌, ◌∙◌, ◌≢◌, ℕ, suc, ◌<◌, ◌^◌, ◌++◌, Bool, true, false, not, ◌&&◌, ltb, eqb, cond, List, [], ◌∷◌, length, codes, decimal, Result, Ok, Err, Option, Some, None, ◌≤◌, inl, inr, refl, sym, ap, subst, arith}
+use Rattle.std.proofs.Common.{◌≡◌, ◌∙◌, ◌≢◌, ℕ, suc, ◌<◌, ◌^◌, ◌++◌, Bool, true, false, not, ◌&&◌, ltb, eqb, cond, List, [], ◌∷◌, length, codes, decimal, Result, Ok, Err, Some, None, ◌≤◌, inl, inr, refl, sym, ap, subst, arith}
 use Rattle.std.specs.List.{All, flat_map, list_all}
 use Rattle.ox_types.specs.Key.{key_fault}
 use Rattle.ox_types.specs.declared.key.KeyFault.{KeyFault}

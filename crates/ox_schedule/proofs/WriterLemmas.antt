@@ -1,11 +1,8 @@
 -- The text that is written word by word is the line.
-use Rattle.std.proofs.Common.{◌≡◌, ◌∙◌, ℕ, Bool, true, false, ◌||◌, List, [], ◌∷◌, ◌++◌, map, codes, decimal, refl, sym, ap, append_assoc, arith}
+use Rattle.std.proofs.Common.{◌≡◌, ◌∙◌, ℕ, Bool, true, false, ◌||◌, List, [], ◌∷◌, ◌++◌, map, codes, decimal, refl, sym, ap, append_assoc}
 use Rattle.std.specs.List.{join_with_byte}
 use Rattle.std.proofs.lemmas.List.{append-nil}
 use Rattle.std.proofs.lemmas.Grind.{flat_map-append}
-use Rattle.ox_order.specs.declared.range.KeyRange.{KeyRange}
-use Rattle.ox_ops.specs.declared.write.Put.{Put}
-use Rattle.ox_ops.specs.declared.write.Delete.{Delete}
 use Rattle.ox_ops.specs.declared.write.WriteBatch.{WriteBatch}
 use Rattle.ox_schedule.specs.declared.schedule.Request.{Request}
 use Rattle.ox_schedule.specs.declared.schedule.Event.TheVariants.{Client}

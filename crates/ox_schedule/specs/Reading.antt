@@ -1,5 +1,5 @@
 -- What words say, or the first rule that they break.
-use Rattle.std.specs.Prelude.{ℕ, Bool, List, [], ◌∷◌, ◌++◌, ◌&&◌, not, length, Result, Ok, Err, Option, Some, None, ◌==◌, decimal, codes, if◌then◌else◌}
+use Rattle.std.specs.Prelude.{ℕ, List, [], ◌∷◌, ◌++◌, ◌&&◌, not, length, Result, Ok, Err, Option, Some, None, ◌==◌, decimal, codes, if◌then◌else◌}
 use Rattle.std.specs.List.{list_all}
 use Rattle.std.specs.Str.{bytes_eq}
 use Rattle.std.specs.Str.Parse.{digits_value}

@@ -1,5 +1,5 @@
 -- Schedules: which bytes spell one, and else the first bad line and the first rule that it breaks.
-use Rattle.std.specs.Prelude.{◌≡◌, ℕ, ◌+◌, Bool, true, not, ◌==◌, List, [], ◌∷◌, ◌++◌, length, map, codes, decimal, Result, Ok, Err, if◌then◌else◌}
+use Rattle.std.specs.Prelude.{◌≡◌, ◌⊎◌, ℕ, ◌+◌, Bool, true, not, ◌==◌, List, [], ◌∷◌, ◌++◌, length, map, codes, decimal, Result, Ok, Err, if◌then◌else◌}
 use Rattle.std.specs.List.{list_all, onto_first, join_with_byte}
 use Rattle.std.specs.Str.{bytes_eq}
 use Rattle.ox_types.specs.declared.ended.LineRule.{LineRule}
@@ -109,3 +109,29 @@ Fails (fault.BadLine line broken) read = read ≡ Err (line, broken)
 abbrev pub Answers : {Y : Type 0} → Result Y ScheduleFault → Result Y (ℕ × LineRule) → Type 0
 Answers (Ok x) read = read ≡ Ok x
 Answers (Err e) read = Fails e read
+
+-- ---- which line is the first bad one
+
+-- the first of the lines, an empty one where there are none
+abbrev pub first_text : List (List ℕ) → List ℕ
+first_text [] = []
+first_text (line ∷ lines) = line
+
+-- line 1 breaks the rule
+pub record BreaksFirst (bytes : List ℕ) (number : ℕ) (broken : LineRule) : Type 0 where
+  pub number_is : number ≡ 1
+  pub rule_is : first_at (first_text (lines_of bytes)) ≡ Err broken
+
+-- the lines before this one spell a schedule, and it breaks the rule
+pub record BreaksBehind (bytes : List ℕ) (number : ℕ) (broken : LineRule) : Type 0 where
+  pub front : Schedule
+  pub line : List ℕ
+  pub rest : List (List ℕ)
+  pub valid : IsSchedule front
+  pub lines : lines_of bytes ≡ first_line front.first ∷ map event_line front.events ++ line ∷ rest
+  pub number_is : number ≡ length front.events + 2
+  pub rule_is : line_at (places_of front.first) line ≡ Err broken
+
+-- The first bad line, and the first rule that it breaks.
+abbrev pub IsFirstBadLine : List ℕ → ℕ → LineRule → Type 0
+IsFirstBadLine bytes number broken = BreaksFirst bytes number broken ⊎ BreaksBehind bytes number broken

@@ -1,5 +1,5 @@
 -- The grammar of a line: the words of each construct, and which constructs are lawful. A line is the words of its event.
-use Rattle.std.specs.Prelude.{◌≡◌, ℕ, ◌^◌, Bool, true, false, not, ◌&&◌, ◌||◌, ◌==◌, nat_le, nat_lt, is_none, Option, List, [], ◌∷◌, ◌++◌, length, map, codes, decimal, if◌then◌else◌}
+use Rattle.std.specs.Prelude.{◌≡◌, ℕ, ◌^◌, Bool, true, false, not, ◌&&◌, ◌||◌, ◌==◌, nat_le, nat_lt, is_none, List, [], ◌∷◌, ◌++◌, length, map, codes, decimal, if◌then◌else◌}
 use Rattle.std.specs.List.{list_all, flat_map, slice_split, join_with_byte}
 use Rattle.percent_encoding.specs.Percent.{percent_encode_byte}
 use Rattle.ox_types.specs.Key.{key_fault}

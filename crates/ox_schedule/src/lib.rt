@@ -13,7 +13,9 @@ mod word;
 mod writer;
 
 pub use fault::{LineFault, ScheduleFault};
-pub use law::{law_line, law_one_schedule, law_schedule, law_shape};
+pub use law::{
+    law_encodable, law_first_bad_line, law_line, law_one_schedule, law_rules, law_schedule,
+};
 pub use reading::read_schedule;
 pub use schedule::{Event, First, Grouping, Places, Request, Schedule};
 pub use writer::{add_event, add_key, add_value};

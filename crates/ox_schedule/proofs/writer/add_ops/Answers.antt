@@ -1,7 +1,7 @@
-use Rattle.std.proofs.Common.{◌≡◌, ◌∙◌, ◌++◌, ◌||◌, List, ℕ, ap, map}
+use Rattle.std.proofs.Common.{◌≡◌, ◌++◌, List, ℕ, map}
 use Rattle.std.proofs.lemmas.Result.{IfOk-weaker}
-use Rattle.ox_schedule.specs.Spelling.{put_op, delete_op, range_op, joined, batch_ops}
-use Rattle.ox_schedule.specs.Line.{spaced, has_some, ops_behind}
+use Rattle.ox_schedule.specs.Spelling.{range_op, joined, batch_ops}
+use Rattle.ox_schedule.specs.Line.{spaced, ops_behind}
 use Rattle.ox_schedule.proofs.WriterLemmas.{batch_text}
 use Rattle.ox_schedule.proofs.writer.add_ops.Goals as goal
 
