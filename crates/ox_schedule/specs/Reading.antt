@@ -65,12 +65,15 @@ abbrev pub lo_given : List ℕ → Option (List ℕ) → Result Lo LineRule
 lo_given w None = key_of w >>= λ key. Ok (At key)
 lo_given w (Some text) = key_of text >>= λ key. Ok (Past key)
 
+-- the low end that a word says
 unfoldable pub lo_of : List ℕ → Result Lo LineRule
 lo_of w = if bytes_eq w (codes "*") then Ok Start else lo_given w (after (codes ">") w)
 
+-- the high end that a word says
 unfoldable pub hi_of : List ℕ → Result Hi LineRule
 hi_of w = if bytes_eq w (codes "*") then Ok End else (key_of w >>= λ key. Ok (Before key))
 
+-- the comparison that a word says
 unfoldable pub compare_of : List ℕ → Result Compare LineRule
 compare_of w =
     if bytes_eq w (codes "equal") then Ok Equal
@@ -85,12 +88,14 @@ expect_of w = if bytes_eq w (codes "absent") then Ok Absent else (number_of w >>
 
 -- ---- the next word, and those after it
 
+-- the key that the next word says
 unfoldable pub key_at : List (List ℕ) → Result (List ℕ × List (List ℕ)) LineRule
 key_at ws = do
   w ← word_at ws
   key ← key_of w.0
   Ok (key, w.1)
 
+-- the value that the next word says
 unfoldable pub value_at : List (List ℕ) → Result (List ℕ × List (List ℕ)) LineRule
 value_at ws = do
   w ← word_at ws
@@ -102,6 +107,7 @@ abbrev pub expect_given : List ℕ → List (List ℕ) → Option (List ℕ) →
 expect_given w ws None = Ok (Any, w ∷ ws)
 expect_given w ws (Some text) = expect_of text >>= λ e. Ok (e, ws)
 
+-- the expectation, anything where no option of it comes next
 unfoldable pub expect_at : List (List ℕ) → Result (Expect × List (List ℕ)) LineRule
 expect_at [] = Ok (Any, [])
 expect_at (w ∷ ws) = expect_given w ws (after (codes "expect=") w)
@@ -113,6 +119,7 @@ options_end (w ∷ ws) = Err rule.Option
 
 -- ---- the words behind the word of a request
 
+-- two ends and nothing more
 unfoldable pub range_of : List (List ℕ) → Result KeyRange LineRule
 range_of ws = do
   first ← word_at ws
@@ -126,6 +133,7 @@ range_of ws = do
 abbrev pub plain_put : List ℕ → List ℕ → Expect → Put
 plain_put key value expect = record { key = key; value = value; expect = expect; session = None; deltas = []; indexes = [] }
 
+-- a key, a value, an expectation and nothing more
 unfoldable pub put_of : List (List ℕ) → Result Put LineRule
 put_of ws = do
   key ← key_at ws
@@ -134,6 +142,7 @@ put_of ws = do
   end ← options_end expect.1
   Ok (plain_put key.0 value.0 expect.0)
 
+-- a key, an expectation and nothing more
 unfoldable pub delete_of : List (List ℕ) → Result Delete LineRule
 delete_of ws = do
   key ← key_at ws
@@ -141,6 +150,7 @@ delete_of ws = do
   end ← options_end expect.1
   Ok (record { key = key.0; expect = expect.0 })
 
+-- a comparison, a key and nothing more
 unfoldable pub get_of : List (List ℕ) → Result ShardQuery LineRule
 get_of ws = do
   first ← word_at ws
@@ -151,15 +161,19 @@ get_of ws = do
 
 -- ---- writes: puts, then deletes, then ranges
 
+-- no operations
 abbrev pub empty_batch : WriteBatch
 empty_batch = record { puts = []; deletes = []; ranges = [] }
 
+-- one put more
 abbrev pub with_put : WriteBatch → Put → WriteBatch
 with_put b p = record { puts = b.puts ++ p ∷ []; deletes = b.deletes; ranges = b.ranges }
 
+-- one delete more
 abbrev pub with_delete : WriteBatch → Delete → WriteBatch
 with_delete b d = record { puts = b.puts; deletes = b.deletes ++ d ∷ []; ranges = b.ranges }
 
+-- one range delete more
 abbrev pub with_range : WriteBatch → KeyRange → WriteBatch
 with_range b r = record { puts = b.puts; deletes = b.deletes; ranges = b.ranges ++ r ∷ [] }
 
@@ -181,6 +195,7 @@ batch_of ws = ops_onto empty_batch (ops_in ws)
 
 -- ---- requests and events
 
+-- the request that words say: a batch, a read, or one write by itself
 unfoldable pub request_of : List (List ℕ) → Result Request LineRule
 request_of ws = word_at ws >>= λ w.
     if bytes_eq w.0 (codes "batch") then (batch_of w.1 >>= λ b. Ok (Write grouping.Batch (command.Write b)))
@@ -211,6 +226,7 @@ client_of places ws = do
   r ← request_of shard.1
   Ok (Client node.0 shard.0 r)
 
+-- the event that words say
 unfoldable pub event_of : Places → List (List ℕ) → Result Event LineRule
 event_of places ws = word_at ws >>= λ w. if bytes_eq w.0 (codes "client") then client_of places w.1 else Err rule.Word
 

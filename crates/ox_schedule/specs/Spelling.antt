@@ -2,7 +2,7 @@
 use Rattle.std.specs.Prelude.{◌≡◌, ℕ, ◌^◌, Bool, true, false, not, ◌&&◌, ◌||◌, ◌==◌, nat_le, nat_lt, is_none, List, [], ◌∷◌, ◌++◌, length, map, codes, decimal, if◌then◌else◌}
 use Rattle.std.specs.List.{list_all, flat_map, slice_split, join_with_byte}
 use Rattle.percent_encoding.specs.Percent.{percent_encode_byte}
-use Rattle.ox_types.specs.Key.{key_fault}
+use Rattle.ox_bytes.specs.Fields as field
 use Rattle.ox_order.specs.declared.range.Lo.{Lo}
 use Rattle.ox_order.specs.declared.range.Lo.TheVariants.{Start, At, Past}
 use Rattle.ox_order.specs.declared.range.Hi.{Hi}
@@ -41,16 +41,17 @@ escape b = if is_plain b then b ∷ [] else percent_encode_byte b
 unfoldable pub spelt : List ℕ → List ℕ
 spelt bytes = flat_map escape bytes
 
+-- a number that a byte can be
 abbrev pub is_byte : ℕ → Bool
 is_byte b = nat_lt b 256
 
 -- bytes that are a key
 unfoldable pub is_key : List ℕ → Bool
-is_key key = list_all is_byte key && is_none (key_fault key)
+is_key key = list_all is_byte key && field.is_key key
 
 -- bytes that are a value
 unfoldable pub is_value : List ℕ → Bool
-is_value value = list_all is_byte value && nat_le (length value) 1048576
+is_value value = list_all is_byte value && field.is_value value
 
 -- a number of a schedule is any u64
 abbrev pub is_number : ℕ → Bool
@@ -72,6 +73,7 @@ expect_words Any = []
 expect_words Absent = codes "expect=absent" ∷ []
 expect_words (Exactly n) = (codes "expect=" ++ decimal n) ∷ []
 
+-- an expectation that can be spelt
 abbrev pub is_expect : Expect → Bool
 is_expect Any = true
 is_expect Absent = true
@@ -83,6 +85,7 @@ lo_word Start = codes "*"
 lo_word (At key) = spelt key
 lo_word (Past key) = codes ">" ++ spelt key
 
+-- a low end that can be spelt
 abbrev pub is_lo : Lo → Bool
 is_lo Start = true
 is_lo (At key) = is_key key
@@ -93,13 +96,16 @@ abbrev pub hi_word : Hi → List ℕ
 hi_word End = codes "*"
 hi_word (Before key) = spelt key
 
+-- a high end that can be spelt
 abbrev pub is_hi : Hi → Bool
 is_hi End = true
 is_hi (Before key) = is_key key
 
+-- both ends of a range
 abbrev pub range_words : KeyRange → List (List ℕ)
 range_words r = lo_word r.lo ∷ hi_word r.hi ∷ []
 
+-- a range that can be spelt
 abbrev pub is_range : KeyRange → Bool
 is_range r = is_lo r.lo && is_hi r.hi
 
@@ -117,16 +123,19 @@ is_put p = is_key p.key && is_value p.value && is_expect p.expect && is_none p.s
 abbrev pub delete_words : Delete → List (List ℕ)
 delete_words d = spelt d.key ∷ expect_words d.expect
 
+-- a delete that can be spelt
 abbrev pub is_delete : Delete → Bool
 is_delete d = is_key d.key && is_expect d.expect
 
--- an operation with its word
+-- a put with its word
 abbrev pub put_op : Put → List (List ℕ)
 put_op p = codes "put" ∷ put_words p
 
+-- the same of a delete
 abbrev pub delete_op : Delete → List (List ℕ)
 delete_op d = codes "delete" ∷ delete_words d
 
+-- the same of a range delete
 abbrev pub range_op : KeyRange → List (List ℕ)
 range_op r = codes "deleterange" ∷ range_words r
 
@@ -170,6 +179,7 @@ is_command g (command.Open timeout) = false
 is_command g (command.Close session) = false
 is_command g (command.Expire session) = false
 
+-- the word of a comparison
 abbrev pub compare_word : Compare → List ℕ
 compare_word Equal = codes "equal"
 compare_word Floor = codes "floor"
@@ -193,10 +203,12 @@ is_query (query.Scan r by) = is_range r && is_none by
 is_query (query.Notices n skip) = false
 is_query (query.KeepAlive session) = false
 
+-- the words of a request
 abbrev pub request_words : Request → List (List ℕ)
 request_words (Write g command) = command_words g command
 request_words (Read query) = query_words query
 
+-- a request that can be spelt
 abbrev pub is_request : Request → Bool
 is_request (Write g command) = is_command g command
 is_request (Read query) = is_query query

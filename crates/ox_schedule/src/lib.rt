@@ -12,7 +12,7 @@ mod shape;
 mod word;
 mod writer;
 
-pub use fault::{LineFault, ScheduleFault};
+pub use fault::ScheduleFault;
 pub use law::{
     law_encodable, law_first_bad_line, law_line, law_one_schedule, law_rules, law_schedule,
 };

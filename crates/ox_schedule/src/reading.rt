@@ -117,7 +117,7 @@ fn read_all(alloc: Global, bytes: &[u8]) -> Result<Schedule, ScheduleFault>
 }
 
 /// The schedule that the bytes spell, or the first bad line and the first rule that it breaks (docs/REPLAY.md).
-/// It costs the bytes.
+/// It costs the bytes, and takes memory for the schedule and for one line's words and longest key or value.
 pub fn read_schedule(alloc: Global, bytes: &[u8]) -> Result<Schedule, ScheduleFault>
     // What is read is spelled so.
     ensures found { IfOk result (λ s. SpellsSchedule bytes.now s) }

@@ -1,5 +1,5 @@
 use super::*;
-use ox_types::{LineRule, NoMemory, Octets};
+use ox_types::{Key, LineRule, NoMemory, Octets, Value};
 use std::alloc::Global;
 use std::test::Fail;
 
@@ -39,6 +39,17 @@ fn events_are_written_as_they_are_read(rt: HostRuntime) -> Result<(), Fail> {
     text.extend(lines.as_slice())?;
     let again = written(rt.alloc(), text.as_slice())?;
     assert_eq!(rt; again.as_slice(), lines.as_slice());
+    Ok(())
+}
+
+#[test]
+fn keys_and_values_are_spelt(rt: HostRuntime) -> Result<(), Fail> {
+    let key = Key::try_new(Vec::from_slice(rt.alloc(), b"a b~/%")?)?;
+    let value = Value::try_new(Vec::new(rt.alloc()))?;
+    let mut text = Octets::new(rt.alloc());
+    add_key(rt.alloc(), &mut text, &key)?;
+    add_value(rt.alloc(), &mut text, &value)?;
+    assert_eq!(rt; text.as_slice(), b"a%20b%7E/%25*".as_slice());
     Ok(())
 }
 
@@ -99,8 +110,14 @@ fn bad_words(rt: HostRuntime) -> Result<(), Fail> {
             LineRule::Word,
         ),
         (b"client 1 0 batch delete c + put % b", LineRule::Order),
-        (b"client 1 0 batch deleterange a b + put a b", LineRule::Order),
-        (b"client 1 0 batch deleterange a b + delete a", LineRule::Order),
+        (
+            b"client 1 0 batch deleterange a b + put a b",
+            LineRule::Order,
+        ),
+        (
+            b"client 1 0 batch deleterange a b + delete a",
+            LineRule::Order,
+        ),
     ];
     for (line, rule) in cases {
         assert_eq!(rt; fault_behind(rt.alloc(), line)?, Some((2, rule)));
@@ -161,17 +178,14 @@ fn bad_fields(rt: HostRuntime) -> Result<(), Fail> {
 
 #[test]
 fn the_first_bad_line_is_told(rt: HostRuntime) -> Result<(), Fail> {
-    let text = b"solo 1\nclient 1 0 put longer-line-than-the-next x\nclient 1 0 get equal =\nfrob\n";
+    let text =
+        b"solo 1\nclient 1 0 put longer-line-than-the-next x\nclient 1 0 get equal =\nfrob\n";
     assert_eq!(rt; fault_of(rt.alloc(), text)?, Some((3, LineRule::Key)));
     Ok(())
 }
 
 /// The fault of one put, with a key and a value of these lengths.
-fn fault_at(
-    alloc: Global,
-    key: usize,
-    value: usize,
-) -> Result<Option<(u64, LineRule)>, NoMemory> {
+fn fault_at(alloc: Global, key: usize, value: usize) -> Result<Option<(u64, LineRule)>, NoMemory> {
     let mut text = Octets::from_slice(alloc, b"solo 1\nclient 1 0 put ")?;
     text.extend(vec![in alloc; b'k'; key]?.as_slice())?;
     text.extend(b" ")?;

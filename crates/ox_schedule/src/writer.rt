@@ -249,12 +249,7 @@ fn add_compare(text: &mut Octets, compare: Compare) -> Result<(), NoMemory>
     }
 }
 
-fn add_get(
-    alloc: Global,
-    text: &mut Octets,
-    compare: Compare,
-    key: &Key,
-) -> Result<(), NoMemory>
+fn add_get(alloc: Global, text: &mut Octets, compare: Compare, key: &Key) -> Result<(), NoMemory>
     ensures { OnOk result (text.new ≡ text.old ++ spaced (codes "get" ∷ compare_word compare ∷ spelt key.now ∷ [])) }
 {
     text.extend(b" get")?;

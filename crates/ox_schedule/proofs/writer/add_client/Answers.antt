@@ -11,5 +11,5 @@ returns c =
     let P : Unit {0} → Type 0 = λ _. c.add_request.new.text ≡ c.add_number-2.new.text ++ spaced (request_words c.args.request.now) in
     let Q : Unit {0} → Type 0 = λ _. c.add_request.new.text ≡ c.args.text.now ++ event_line (Client c.args.node c.args.shard c.args.request.now) in
     let all : c.add_number-2.new.text ++ spaced (request_words c.args.request.now) ≡ c.args.text.now ++ event_line (Client c.args.node c.args.shard c.args.request.now) =
-        rw (c.in_ok-add_number-2.ensures, c.in_ok-add_number.ensures, c.in_ok-extend.ensures.ok) (client_text c.args.text.now c.args.node c.args.shard c.args.request.now) in
+    rw (c.in_ok-add_number-2.ensures, c.in_ok-add_number.ensures, c.in_ok-extend.ensures.ok) (client_text c.args.text.now c.args.node c.args.shard c.args.request.now) in
     IfOk-weaker c.add_request.result P Q (λ _ e. cc) c.add_request.ensures

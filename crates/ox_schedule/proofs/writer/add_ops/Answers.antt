@@ -12,5 +12,5 @@ returns c =
     let P : Unit {0} → Type 0 = λ _. c.add_ranges.new.text ≡ c.add_deletes.new.text ++ ranges in
     let Q : Unit {0} → Type 0 = λ _. c.add_ranges.new.text ≡ c.args.text.now ++ spaced (joined (batch_ops b)) in
     let all : c.add_deletes.new.text ++ ranges ≡ c.args.text.now ++ spaced (joined (batch_ops b)) =
-        rw (c.follow_others.ensures, c.as_slice-2.ensures, c.in_ok-add_deletes.ensures, c.has_items.ensures, c.as_slice.ensures, c.in_ok-add_puts.ensures, c.as_slice-puts.ensures) (batch_text c.args.text.now b) in
+    rw (c.follow_others.ensures, c.as_slice-2.ensures, c.in_ok-add_deletes.ensures, c.has_items.ensures, c.as_slice.ensures, c.in_ok-add_puts.ensures, c.as_slice-puts.ensures) (batch_text c.args.text.now b) in
     IfOk-weaker c.add_ranges.result P Q (λ _ e. cc) c.add_ranges.ensures
