@@ -1,15 +1,18 @@
 -- Where reading fails, it tells the first bad line, and the other way round.
 use Rattle.std.proofs.Common.{◌≡◌, ◌∙◌, ℕ, suc, ◌+◌, true, List, [], ◌∷◌, ◌++◌, length, map, Result, Ok, Err, ◌⊎◌, inl, inr, refl, sym, ap, arith}
+use Rattle.std.specs.Prelude.{IfErr}
 use Rattle.std.specs.List.{list_all}
 use Rattle.ox_types.specs.declared.ended.LineRule.{LineRule}
 use Rattle.ox_types.specs.declared.ended.LineRule.TheVariants as rule
+use Rattle.ox_schedule.specs.declared.fault.ScheduleFault.{ScheduleFault}
+use Rattle.ox_schedule.specs.declared.fault.ScheduleFault.TheVariants as fault
 use Rattle.ox_schedule.specs.declared.schedule.Event.{Event}
 use Rattle.ox_schedule.specs.declared.schedule.Places.{Places}
 use Rattle.ox_schedule.specs.declared.schedule.First.{First}
 use Rattle.ox_schedule.specs.declared.schedule.Schedule.{Schedule}
 use Rattle.ox_schedule.specs.Spelling.{is_event, event_line}
 use Rattle.ox_schedule.specs.Reading.{line_at}
-use Rattle.ox_schedule.specs.Schedule.{lines_of, places_of, is_first, first_line, at_line, event_then, events_at, first_at, schedule_with, behind_first, schedule_in, schedule_at, first_text, IsFirstBadLine}
+use Rattle.ox_schedule.specs.Schedule.{Answers, IsFaultOf, lines_of, places_of, is_first, first_line, at_line, event_then, events_at, first_at, schedule_with, behind_first, schedule_in, schedule_at, first_text, IsFirstBadLine}
 use Rattle.ox_schedule.proofs.Words.{both, two}
 use Rattle.ox_schedule.proofs.LineLemmas.{line_found, own_line}
 use Rattle.ox_schedule.proofs.ScheduleLemmas.{first_found, own_first}
@@ -106,3 +109,8 @@ bad_again bytes n r (inr x) =
     let p = places_of x.front.first in
     ap schedule_in x.lines
     ∙ rw (own_first x.front.first x.valid.first, events_broken p 2 x.front.events x.line x.rest r x.valid.lawful x.rule_is) (ap (λ (m : ℕ). Err (m, r)) (sym x.number_is))
+
+pub answers_first : (bytes : List ℕ) (r : Result Schedule ScheduleFault) → Answers r (schedule_at bytes) → IfErr r (λ f. IsFaultOf bytes f)
+answers_first bytes (Ok s) h = tt
+answers_first bytes (Err fault.NoMemory) h = tt
+answers_first bytes (Err (fault.BadLine line broken)) h = bad_found bytes line broken h

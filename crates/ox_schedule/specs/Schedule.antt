@@ -135,3 +135,8 @@ pub record BreaksBehind (bytes : List ℕ) (number : ℕ) (broken : LineRule) : 
 -- The first bad line, and the first rule that it breaks.
 abbrev pub IsFirstBadLine : List ℕ → ℕ → LineRule → Type 0
 IsFirstBadLine bytes number broken = BreaksFirst bytes number broken ⊎ BreaksBehind bytes number broken
+
+-- a fault tells the first bad line, unless memory ran out
+abbrev pub IsFaultOf : List ℕ → ScheduleFault → Type 0
+IsFaultOf bytes fault.NoMemory = Unit {0}
+IsFaultOf bytes (fault.BadLine line broken) = IsFirstBadLine bytes line broken

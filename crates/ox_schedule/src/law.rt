@@ -28,7 +28,7 @@ pub fn law_schedule()
     ensures { (bytes : List ℕ) (s : Schedule) → (schedule_at bytes ≡ Ok s) ↔ SpellsSchedule bytes s }
 {}
 
-/// Else the line and the rule are told of the first line behind which no schedule goes on.
+/// Where bytes spell no schedule, reading tells the line behind a front that spells one, and the first rule that it breaks.
 pub fn law_first_bad_line()
     ensures { (bytes : List ℕ) (number : ℕ) (broken : LineRule) → (schedule_at bytes ≡ Err (number, broken)) ↔ IsFirstBadLine bytes number broken }
 {}

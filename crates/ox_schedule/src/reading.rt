@@ -1,9 +1,9 @@
 // The lines of a schedule.
-ghost use Rattle.std.specs.Prelude.{◌≡◌, ◌<◌, ◌≤◌, ◌∷◌, ◌==◌, Ok, length, map, position, IfOk};
+ghost use Rattle.std.specs.Prelude.{◌≡◌, ◌<◌, ◌≤◌, ◌∷◌, ◌==◌, Ok, length, map, position, IfOk, IfErr};
 ghost use Rattle.ox_schedule.specs.declared.schedule.Schedule.{Schedule};
 ghost use Rattle.ox_schedule.specs.Outcome.{Gives};
 ghost use Rattle.ox_schedule.specs.Reading.{line_at};
-ghost use Rattle.ox_schedule.specs.Schedule.{Answers, SpellsSchedule, at_line, events_at, first_of, first_at, lines_of, places_of, schedule_at};
+ghost use Rattle.ox_schedule.specs.Schedule.{Answers, SpellsSchedule, IsFaultOf, at_line, events_at, first_of, first_at, lines_of, places_of, schedule_at};
 
 use crate::fault::{LineFault, ScheduleFault};
 use crate::line::{are_words, read_line, split_words};
@@ -123,7 +123,9 @@ pub fn read_schedule(alloc: Global, bytes: &[u8]) -> Result<Schedule, ScheduleFa
     ensures found { IfOk result (λ s. SpellsSchedule bytes.now s) }
     // What is spelled so is read, unless memory runs out.
     ensures only { (s : Schedule) → SpellsSchedule bytes.now s → Answers result (Ok s) }
-    // Which line and which rule it is.
+    // Else the lines before the told one are good, and it breaks the told rule and none that comes before that.
+    ensures first { IfErr result (λ f. IsFaultOf bytes.now f) }
+    // In one equation: the schedule, or which line and which rule it is.
     ensures exact { Answers result (schedule_at bytes.now) }
     ensures short { IfOk result (λ s. length s.events ≤ length bytes.now) }
 {
