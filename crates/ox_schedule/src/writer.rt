@@ -307,8 +307,8 @@ fn add_client(
     add_request(alloc, text, request)
 }
 
-/// Adds the line of an event, without a line feed: the line that is read as that event. It costs the line, which is made
-/// in memory of its own first. Where memory runs out, nothing is added.
+/// Adds the line of an event, without a line feed: of an event of a schedule, the very line that was read. It costs the
+/// line, which is made in memory of its own first. Where memory runs out, nothing is added.
 pub fn add_event(alloc: Global, text: &mut Octets, event: &Event) -> Result<(), NoMemory>
     ensures ok { OnOk result (text.new ≡ text.old ++ event_line event.now) }
     ensures err { OnErr result (text.new ≡ text.old) }
