@@ -1,0 +1,14 @@
+mod Words
+mod Fields
+mod OpsLemmas
+mod BatchLemmas
+mod EventLemmas
+mod WordLemmas
+mod JoinLemmas
+mod LineLemmas
+mod TextLemmas
+mod ScheduleLemmas
+mod ShapeLemmas
+mod WriterLemmas
+mod LawfulLemmas
+mod BadLineLemmas

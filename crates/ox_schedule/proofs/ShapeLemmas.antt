@@ -1,0 +1,319 @@
+-- A line of the right shape breaks only rules of single words: so `bytes` and `word` say exactly what is wrong.
+use Rattle.std.proofs.Common.{◌≢◌, not, eqb, ◌≡◌, ◌∙◌, ◌<◌, ◌≤◌, ℕ, suc, Bool, true, false, ◌&&◌, ◌||◌, cond, List, [], ◌∷◌, length, codes, decimal, Result, Ok, Err, Option, Some, None, ◌⊎◌, inl, inr, refl, sym, ap, subst, arith}
+use Rattle.std.specs.Str.{bytes_eq}
+use Rattle.std.specs.List.{list_all}
+use Rattle.std.proofs.lemmas.Grind.{common_steps}
+use Rattle.std.proofs.lemmas.Bool.{cases_Bool, leb-true, eqb-true}
+use Rattle.ox_types.specs.declared.ended.LineRule.{LineRule}
+use Rattle.ox_types.specs.declared.ended.LineRule.TheVariants as rule
+use Rattle.ox_ops.specs.declared.write.WriteBatch.{WriteBatch}
+use Rattle.ox_schedule.specs.declared.schedule.Places.{Places}
+use Rattle.ox_ops.specs.declared.query.Compare.TheVariants.{Equal, Floor, Ceiling, Lower, Higher}
+use Rattle.ox_order.specs.declared.range.Lo.TheVariants.{Start}
+use Rattle.ox_order.specs.declared.range.Hi.TheVariants.{End, Before}
+use Rattle.ox_ops.specs.declared.write.Expect.TheVariants.{Absent, Exactly}
+use Rattle.percent_encoding.specs.Percent.{percent_decode}
+use Rattle.std.specs.Str.Parse.{digits_value}
+use Rattle.ox_schedule.specs.Spelling.{spelt, value_word, is_key, is_value, is_number, is_empty, is_node, is_shard, is_word, words_of}
+use Rattle.ox_schedule.proofs.EventLemmas.{node_is, shard_is}
+use Rattle.ox_schedule.specs.Outcome.{◌>>=◌, said}
+use Rattle.ox_schedule.specs.Shape.{ops_in, is_compare, write_fits, op_fits, get_fits, request_fits, client_fits, event_fits}
+use Rattle.ox_schedule.specs.Reading.{after, word_at, number_of, key_of, key_at, value_of, value_guess, value_at, expect_of, expect_given, expect_at, options_end, lo_given, lo_of, hi_of, compare_of, range_of, put_of, delete_of, get_of, with_put, with_delete, op_onto, ops_onto, batch_of, request_of, node_at, shard_at, client_of, event_of, line_at, empty_batch}
+use Rattle.ox_schedule.proofs.Words.{both, same_bytes}
+use Rattle.ox_schedule.proofs.Fields.{word_is, key_at_is}
+
+abbrev kept : LineRule → Bool
+kept rule.Word = false
+kept rule.Bytes = false
+kept rule.First = false
+kept rule.Number = true
+kept rule.Name = true
+kept rule.Key = true
+kept rule.Value = true
+kept rule.Option = true
+kept rule.Order = true
+
+abbrev fine : {A : Type 0} → Result A LineRule → Bool
+fine (Ok x) = true
+fine (Err r) = kept r
+
+record Fine {A : Type 0} (r : Result A LineRule) : Type 0 where
+  pub is : fine r ≡ true
+
+bind_fine : {A B : Type 0} (r : Result A LineRule) (f : A → Result B LineRule) → Fine r → ((x : A) → r ≡ Ok x → Fine (f x)) → Fine (r >>= f)
+bind_fine (Ok x) f h k = k x refl
+bind_fine (Err e) f h k = record { is = h.is }
+
+test_fine : {A : Type 0} (b : Bool) (x y : Result A LineRule) → Fine x → Fine y → Fine (cond b x y)
+test_fine true x y h k = h
+test_fine false x y h k = k
+
+said_fine : {A : Type 0} (spell : A → List ℕ) (lawful : A → Bool) (r : LineRule) (w : List ℕ) (a : A) → kept r ≡ true → Fine (said spell lawful r w a)
+said_fine spell lawful r w a h = test_fine (bytes_eq w (spell a) && lawful a) (Ok a) (Err r) (record { is = refl }) (record { is = h })
+
+number_fine : (w : List ℕ) → Fine (number_of w)
+unfolding number_of
+number_fine w = said_fine decimal is_number rule.Number w (digits_value 10 w) refl
+
+key_fine : (w : List ℕ) → Fine (key_of w)
+unfolding key_of
+key_fine w = said_fine spelt is_key rule.Key w (percent_decode w) refl
+
+value_fine : (w : List ℕ) → Fine (value_of w)
+unfolding value_of
+value_fine w = said_fine value_word is_value rule.Value w (value_guess w) refl
+
+word_fine : (ws : List (List ℕ)) → 0 < length ws → Fine (word_at ws)
+word_fine [] h = absurd (omega arith)
+word_fine (w ∷ ws) h = record { is = refl }
+
+word_less : (ws : List (List ℕ)) (x : List ℕ × List (List ℕ)) → word_at ws ≡ Ok x → length ws ≡ suc (length x.1)
+word_less ws x e = ap length (word_is ws x e)
+
+key_at_fine : (ws : List (List ℕ)) → 0 < length ws → Fine (key_at ws)
+unfolding key_at
+key_at_fine ws h = bind_fine (word_at ws) _ (word_fine ws h) (λ w e. bind_fine (key_of w.0) _ (key_fine w.0) (λ k f. (record { is = refl })))
+
+value_at_fine : (ws : List (List ℕ)) → 0 < length ws → Fine (value_at ws)
+unfolding value_at
+value_at_fine ws h = bind_fine (word_at ws) _ (word_fine ws h) (λ w e. bind_fine (value_of w.0) _ (value_fine w.0) (λ k f. (record { is = refl })))
+
+expect_of_fine : (w : List ℕ) → Fine (expect_of w)
+unfolding expect_of
+expect_of_fine w = test_fine (bytes_eq w (codes "absent")) (Ok Absent) (number_of w >>= λ n. Ok (Exactly n)) (record { is = refl }) (bind_fine (number_of w) _ (number_fine w) (λ n e. (record { is = refl })))
+
+expect_at_fine : (ws : List (List ℕ)) → Fine (expect_at ws)
+unfolding expect_at
+expect_at_fine [] = record { is = refl }
+expect_at_fine (w ∷ ws) = by_text (after (codes "expect=") w)
+  where
+    by_text : (o : Option (List ℕ)) → Fine (expect_given w ws o)
+    by_text None = record { is = refl }
+    by_text (Some text) = bind_fine (expect_of text) _ (expect_of_fine text) (λ e f. (record { is = refl }))
+
+end_fine : (ws : List (List ℕ)) → Fine (options_end ws)
+end_fine [] = record { is = refl }
+end_fine (w ∷ ws) = record { is = refl }
+
+lo_fine : (w : List ℕ) → Fine (lo_of w)
+unfolding lo_of
+lo_fine w = test_fine (bytes_eq w (codes "*")) (Ok Start) (lo_given w (after (codes ">") w)) (record { is = refl }) (by_mark (after (codes ">") w))
+  where
+    by_mark : (o : Option (List ℕ)) → Fine (lo_given w o)
+    by_mark None = bind_fine (key_of w) _ (key_fine w) (λ k e. (record { is = refl }))
+    by_mark (Some text) = bind_fine (key_of text) _ (key_fine text) (λ k e. (record { is = refl }))
+
+hi_fine : (w : List ℕ) → Fine (hi_of w)
+unfolding hi_of
+hi_fine w = test_fine (bytes_eq w (codes "*")) (Ok End) (key_of w >>= λ key. Ok (Before key)) (record { is = refl }) (bind_fine (key_of w) _ (key_fine w) (λ k e. (record { is = refl })))
+
+range_fine : (ws : List (List ℕ)) → 2 ≤ length ws → Fine (range_of ws)
+unfolding range_of
+range_fine ws h =
+    bind_fine (word_at ws) _ (word_fine ws (omega arith)) (λ a e. bind_fine (lo_of a.0) _ (lo_fine a.0) (λ lo f.
+    bind_fine (word_at a.1) _ (word_fine a.1 (omega (arith, word_less ws a e))) (λ b g. bind_fine (hi_of b.0) _ (hi_fine b.0) (λ hi i.
+    bind_fine (options_end b.1) _ (end_fine b.1) (λ u j. (record { is = refl }))))))
+
+put_fine : (ws : List (List ℕ)) → 2 ≤ length ws → Fine (put_of ws)
+unfolding put_of
+put_fine ws h =
+    bind_fine (key_at ws) _ (key_at_fine ws (omega arith)) (λ k e.
+    bind_fine (value_at k.1) _ (value_at_fine k.1 (omega (arith, ap length (key_at_is ws k e).0))) (λ v f.
+    bind_fine (expect_at v.1) _ (expect_at_fine v.1) (λ x g.
+    bind_fine (options_end x.1) _ (end_fine x.1) (λ u j. (record { is = refl })))))
+
+delete_fine : (ws : List (List ℕ)) → 1 ≤ length ws → Fine (delete_of ws)
+unfolding delete_of
+delete_fine ws h =
+    bind_fine (key_at ws) _ (key_at_fine ws (omega arith)) (λ k e.
+    bind_fine (expect_at k.1) _ (expect_at_fine k.1) (λ x g.
+    bind_fine (options_end x.1) _ (end_fine x.1) (λ u j. (record { is = refl }))))
+
+compare_fine : (w : List ℕ) → is_compare w ≡ true → Fine (compare_of w)
+unfolding compare_of
+compare_fine w h = five (bytes_eq w (codes "equal")) (bytes_eq w (codes "floor")) (bytes_eq w (codes "ceiling")) (bytes_eq w (codes "lower")) (bytes_eq w (codes "higher")) h
+  where
+    five : (a b c d e : Bool) → a || b || c || d || e ≡ true → Fine (cond a (Ok Equal) (cond b (Ok Floor) (cond c (Ok Ceiling) (cond d (Ok Lower) (cond e (Ok Higher) (Err rule.Word))))))
+    five true b c d e h = record { is = refl }
+    five false true c d e h = record { is = refl }
+    five false false true d e h = record { is = refl }
+    five false false false true e h = record { is = refl }
+    five false false false false true h = record { is = refl }
+    five false false false false false h = absurd (cc)
+
+get_fine : (ws : List (List ℕ)) → get_fits ws ≡ true → Fine (get_of ws)
+unfolding get_of
+get_fine [] h = absurd cc
+get_fine (w ∷ ws) h =
+    let x = both _ _ h in
+    let y = both _ _ x.0 in
+    bind_fine (compare_of w) _ (compare_fine w y.0) (λ c e.
+    bind_fine (key_at ws) _ (key_at_fine ws (leb-true 1 (length ws) y.1)) (λ k f.
+    bind_fine (options_end k.1) _ (end_fine k.1) (λ u j. (record { is = refl }))))
+
+-- ---- by the word of a write or of a request
+
+split : (w text : List ℕ) → (w ≡ text) ⊎ (bytes_eq w text ≡ false)
+split w text = elim (cases_Bool (bytes_eq w text)) [ inl h ↦ inl (same_bytes w text h) | inr h ↦ inr h ]
+
+op_put : (b : WriteBatch) (ws : List (List ℕ)) → write_fits (codes "put") (length ws) ≡ true → Fine (op_onto b (codes "put" ∷ ws))
+unfolding write_fits op_onto
+op_put b ws h = test_fine (is_empty b.deletes && is_empty b.ranges) (put_of ws >>= λ p. Ok (with_put b p)) (Err rule.Order) (bind_fine (put_of ws) _ (put_fine ws (leb-true 2 (length ws) h)) (λ p e. (record { is = refl }))) (record { is = refl })
+
+op_delete : (b : WriteBatch) (ws : List (List ℕ)) → write_fits (codes "delete") (length ws) ≡ true → Fine (op_onto b (codes "delete" ∷ ws))
+unfolding write_fits op_onto
+op_delete b ws h = test_fine (is_empty b.ranges) (delete_of ws >>= λ d. Ok (with_delete b d)) (Err rule.Order) (bind_fine (delete_of ws) _ (delete_fine ws (leb-true 1 (length ws) (both _ _ h).0)) (λ p e. (record { is = refl }))) (record { is = refl })
+
+op_range : (b : WriteBatch) (ws : List (List ℕ)) → write_fits (codes "deleterange") (length ws) ≡ true → Fine (op_onto b (codes "deleterange" ∷ ws))
+unfolding write_fits op_onto
+op_range b ws h = bind_fine (range_of ws) _ (range_fine ws (omega (arith, eqb-true (length ws) 2 h))) (λ p e. (record { is = refl }))
+
+op_never : (v : List ℕ) (n : ℕ) → bytes_eq v (codes "put") ≡ false → bytes_eq v (codes "delete") ≡ false → bytes_eq v (codes "deleterange") ≡ false → write_fits v n ≡ true → ⊥
+unfolding write_fits
+op_never v n p d r h = let no : write_fits v n ≡ false = rw (p, d, r) refl in cc
+
+op_fine : (b : WriteBatch) (ws : List (List ℕ)) → op_fits ws ≡ true → Fine (op_onto b ws)
+op_fine b [] h = absurd cc
+op_fine b (v ∷ ws) h =
+    elim (split v (codes "put")) [
+      | inl e ↦ subst (λ (w : List ℕ). write_fits w (length ws) ≡ true → Fine (op_onto b (w ∷ ws))) (sym e) (op_put b ws) h
+      | inr p ↦ elim (split v (codes "delete")) [
+        | inl e ↦ subst (λ (w : List ℕ). write_fits w (length ws) ≡ true → Fine (op_onto b (w ∷ ws))) (sym e) (op_delete b ws) h
+        | inr d ↦ elim (split v (codes "deleterange")) [
+          | inl e ↦ subst (λ (w : List ℕ). write_fits w (length ws) ≡ true → Fine (op_onto b (w ∷ ws))) (sym e) (op_range b ws) h
+          | inr r ↦ absurd (op_never v (length ws) p d r h)
+        ]
+      ]
+    ]
+
+ops_fine : (b : WriteBatch) (ops : List (List (List ℕ))) → list_all op_fits ops ≡ true → Fine (ops_onto b ops)
+ops_fine b [] h = record { is = refl }
+ops_fine b (op ∷ ops) h = let x = both (op_fits op) _ h in bind_fine (op_onto b op) _ (op_fine b op x.0) (λ c e. ops_fine c ops x.1)
+
+batch_fine : (ws : List (List ℕ)) → list_all op_fits (ops_in ws) ≡ true → Fine (batch_of ws)
+unfolding batch_of
+batch_fine ws h = ops_fine empty_batch (ops_in ws) h
+
+abbrev IsAsked : List (List ℕ) → List ℕ → Type 0
+IsAsked ws v = request_fits (v ∷ ws) ≡ true → Fine (request_of (v ∷ ws))
+
+at_batch : (ws : List (List ℕ)) → IsAsked ws (codes "batch")
+unfolding request_fits request_of
+at_batch ws h = bind_fine (batch_of ws) _ (batch_fine ws h) (λ p e. (record { is = refl }))
+
+at_get : (ws : List (List ℕ)) → IsAsked ws (codes "get")
+unfolding request_fits request_of
+at_get ws h = bind_fine (get_of ws) _ (get_fine ws h) (λ p e. (record { is = refl }))
+
+at_list : (ws : List (List ℕ)) → IsAsked ws (codes "list")
+unfolding request_fits request_of
+at_list ws h = bind_fine (range_of ws) _ (range_fine ws (leb-true 2 (length ws) (both _ _ h).0)) (λ p e. (record { is = refl }))
+
+at_scan : (ws : List (List ℕ)) → IsAsked ws (codes "scan")
+unfolding request_fits request_of
+at_scan ws h = bind_fine (range_of ws) _ (range_fine ws (leb-true 2 (length ws) (both _ _ h).0)) (λ p e. (record { is = refl }))
+
+-- none of the words that aren't those of operations
+record IsOther (v : List ℕ) : Type 0 where
+  pub batch : bytes_eq v (codes "batch") ≡ false
+  pub get : bytes_eq v (codes "get") ≡ false
+  pub list : bytes_eq v (codes "list") ≡ false
+  pub scan : bytes_eq v (codes "scan") ≡ false
+
+alone_fine : (v : List ℕ) (ws : List (List ℕ)) → IsOther v → request_fits (v ∷ ws) ≡ true → Fine (request_of (v ∷ ws))
+unfolding request_fits request_of
+alone_fine v ws o h =
+    let fits : op_fits (v ∷ ws) ≡ true = rw (o.batch, o.get, o.list, o.scan) at h in
+    rw (o.batch, o.get, o.list, o.scan) (bind_fine (op_onto empty_batch (v ∷ ws)) _ (op_fine empty_batch (v ∷ ws) fits) (λ p e. (record { is = refl })))
+
+request_fine : (ws : List (List ℕ)) → request_fits ws ≡ true → Fine (request_of ws)
+unfolding request_fits
+request_fine [] h = absurd cc
+request_fine (v ∷ ws) h =
+    elim (split v (codes "batch")) [
+      | inl e ↦ subst (IsAsked ws) (sym e) (at_batch ws) h
+      | inr d ↦
+          elim (split v (codes "get")) [
+            | inl e ↦ subst (IsAsked ws) (sym e) (at_get ws) h
+            | inr f ↦
+                elim (split v (codes "list")) [
+                  | inl e ↦ subst (IsAsked ws) (sym e) (at_list ws) h
+                  | inr g ↦
+                      elim (split v (codes "scan")) [
+                        | inl e ↦ subst (IsAsked ws) (sym e) (at_scan ws) h
+                        | inr i ↦ alone_fine v ws (record { batch = d; get = f; list = g; scan = i }) h
+                      ]
+                ]
+          ]
+    ]
+
+-- ---- events
+
+node_fine : (p : Places) (ws : List (List ℕ)) → 0 < length ws → Fine (node_at p ws)
+unfolding node_at
+node_fine p ws h = bind_fine (word_at ws) _ (word_fine ws h) (λ w e. bind_fine (number_of w.0) _ (number_fine w.0) (λ n f. test_fine (is_node p n) (Ok (n, w.1)) (Err rule.Name) (record { is = refl }) (record { is = refl })))
+
+shard_fine : (p : Places) (ws : List (List ℕ)) → 0 < length ws → Fine (shard_at p ws)
+unfolding shard_at
+shard_fine p ws h = bind_fine (word_at ws) _ (word_fine ws h) (λ w e. bind_fine (number_of w.0) _ (number_fine w.0) (λ n f. test_fine (is_shard p n) (Ok (n, w.1)) (Err rule.Name) (record { is = refl }) (record { is = refl })))
+
+client_fine : (p : Places) (ws : List (List ℕ)) → client_fits ws ≡ true → Fine (client_of p ws)
+unfolding client_of
+client_fine p [] h = absurd cc
+client_fine p (n ∷ []) h = absurd cc
+client_fine p (n ∷ s ∷ ws) h =
+    bind_fine (node_at p (n ∷ s ∷ ws)) _ (node_fine p (n ∷ s ∷ ws) (omega arith)) (λ x e.
+    let one : x.1 ≡ s ∷ ws = tail_is n x.0 _ _ (node_is p (n ∷ s ∷ ws) x e).0 in
+    bind_fine (shard_at p x.1) _ (shard_fine p x.1 (omega (arith, ap length one))) (λ y f.
+    let two : y.1 ≡ ws = tail_is s y.0 _ _ (sym one ∙ (shard_is p x.1 y f).0) in
+    bind_fine (request_of y.1) _ (subst (λ (t : List (List ℕ)). Fine (request_of t)) (sym two) (request_fine ws h)) (λ r g. (record { is = refl }))))
+  where
+    tail_is : (a : List ℕ) (k : ℕ) (rest others : List (List ℕ)) → a ∷ rest ≡ decimal k ∷ others → others ≡ rest
+    tail_is a k rest others e = cc
+
+event_fine : (p : Places) (ws : List (List ℕ)) → event_fits ws ≡ true → Fine (event_of p ws)
+unfolding event_fits event_of
+event_fine p [] h = absurd cc
+event_fine p (v ∷ ws) h = let x = both (bytes_eq v (codes "client")) _ h in rw x.0 (client_fine p ws x.1)
+
+-- ---- what the rules of a whole line say
+
+not_kept : (p : Places) (ws : List (List ℕ)) (r : LineRule) → event_fits ws ≡ true → kept r ≡ false → event_of p ws ≡ Err r → ⊥
+not_kept p ws r h k e = let never : true ≡ kept r = sym (event_fine p ws h).is ∙ ap fine e in cc
+
+line_is : (p : Places) (b : ℕ) (line : List ℕ) → line_at p (b ∷ line) ≡ cond (not (list_all is_word (words_of (b ∷ line)))) (Err rule.Bytes) (cond (event_fits (words_of (b ∷ line))) (event_of p (words_of (b ∷ line))) (Err rule.Word))
+unfolding line_at
+line_is p b line = let some : eqb (suc (length line)) 0 ≡ false = grind (arith, common_steps) in rw some refl
+
+bytes_found : (p : Places) (ws : List (List ℕ)) (x y : Bool) → event_fits ws ≡ y → cond (not x) (Err rule.Bytes) (cond y (event_of p ws) (Err rule.Word)) ≡ Err rule.Bytes → x ≡ false
+bytes_found p ws false y fits e = refl
+bytes_found p ws true false fits e = absurd cc
+bytes_found p ws true true fits e = absurd (not_kept p ws rule.Bytes fits refl e)
+
+word_found : (p : Places) (ws : List (List ℕ)) (x y : Bool) → event_fits ws ≡ y → cond (not x) (Err rule.Bytes) (cond y (event_of p ws) (Err rule.Word)) ≡ Err rule.Word → (x ≡ true) × (y ≡ false)
+word_found p ws false y fits e = absurd cc
+word_found p ws true false fits e = (refl, refl)
+word_found p ws true true fits e = absurd (not_kept p ws rule.Word fits refl e)
+
+pub bytes_rule : (p : Places) (line : List ℕ) → line_at p line ≡ Err rule.Bytes → (line ≢ []) × (list_all is_word (words_of line) ≡ false)
+unfolding line_at
+bytes_rule p [] e = absurd cc
+bytes_rule p (b ∷ line) e = (λ h. cc, bytes_found p (words_of (b ∷ line)) (list_all is_word (words_of (b ∷ line))) (event_fits (words_of (b ∷ line))) refl (sym (line_is p b line) ∙ e))
+
+pub bytes_again : (p : Places) (line : List ℕ) → line ≢ [] → list_all is_word (words_of line) ≡ false → line_at p line ≡ Err rule.Bytes
+bytes_again p [] some h = absurd (some refl)
+bytes_again p (b ∷ line) some h = line_is p b line ∙ rw h refl
+
+pub word_rule : (p : Places) (line : List ℕ) → line_at p line ≡ Err rule.Word → (line ≡ []) ⊎ ((list_all is_word (words_of line) ≡ true) × (event_fits (words_of line) ≡ false))
+word_rule p [] e = inl refl
+word_rule p (b ∷ line) e = inr (word_found p (words_of (b ∷ line)) (list_all is_word (words_of (b ∷ line))) (event_fits (words_of (b ∷ line))) refl (sym (line_is p b line) ∙ e))
+
+shaped_wrong : (p : Places) (line : List ℕ) → list_all is_word (words_of line) ≡ true → event_fits (words_of line) ≡ false → line_at p line ≡ Err rule.Word
+unfolding line_at
+shaped_wrong p [] words fits = refl
+shaped_wrong p (b ∷ line) words fits = line_is p b line ∙ rw (words, fits) refl
+
+pub word_again : (p : Places) (line : List ℕ) → (line ≡ []) ⊎ ((list_all is_word (words_of line) ≡ true) × (event_fits (words_of line) ≡ false)) → line_at p line ≡ Err rule.Word
+unfolding line_at
+word_again p line (inl e) = subst (λ (l : List ℕ). line_at p l ≡ Err rule.Word) (sym e) refl
+word_again p line (inr h) = shaped_wrong p line h.0 h.1

@@ -1,0 +1,79 @@
+-- The text that is written word by word is the line.
+use Rattle.std.proofs.Common.{◌≡◌, ◌∙◌, ℕ, Bool, true, false, ◌||◌, List, [], ◌∷◌, ◌++◌, map, codes, decimal, refl, sym, ap, append_assoc}
+use Rattle.std.specs.List.{join_with_byte}
+use Rattle.std.proofs.lemmas.List.{append-nil}
+use Rattle.std.proofs.lemmas.Grind.{flat_map-append}
+use Rattle.ox_ops.specs.declared.write.WriteBatch.{WriteBatch}
+use Rattle.ox_schedule.specs.declared.schedule.Request.{Request}
+use Rattle.ox_schedule.specs.declared.schedule.Event.TheVariants.{Client}
+use Rattle.ox_schedule.specs.Spelling.{put_op, delete_op, range_op, joined, batch_ops, request_words, event_line}
+use Rattle.ox_schedule.specs.Line.{behind_space, spaced, has_some, plus_words, ops_behind}
+
+pub join_spaced : (w : List ℕ) (ws : List (List ℕ)) → join_with_byte 32 (w ∷ ws) ≡ w ++ spaced ws
+join_spaced w [] = sym (append-nil w)
+join_spaced w (next ∷ ws) = ap (λ (t : List ℕ). w ++ 32 ∷ t) (join_spaced next ws)
+
+-- ---- one operation after the other
+
+op_written : (f : Bool) (op : List (List ℕ)) (ops : List (List (List ℕ))) → ops_behind f (op ∷ ops) ≡ (plus_words f ++ op) ++ ops_behind true ops
+op_written f op [] = sym (append-nil (plus_words f ++ op))
+op_written f op (next ∷ ops) = sym (append_assoc (plus_words f) op (codes "+" ∷ joined (next ∷ ops)))
+
+spaced_append : (a b : List (List ℕ)) → spaced (a ++ b) ≡ spaced a ++ spaced b
+spaced_append a b = flat_map-append behind_space a b
+
+pub op_text : (text : List ℕ) (f : Bool) (op : List (List ℕ)) (ops : List (List (List ℕ))) → ((text ++ spaced (plus_words f)) ++ spaced op) ++ spaced (ops_behind true ops) ≡ text ++ spaced (ops_behind f (op ∷ ops))
+op_text text f op ops =
+    let line : spaced (ops_behind f (op ∷ ops)) ≡ (spaced (plus_words f) ++ spaced op) ++ spaced (ops_behind true ops) = ap spaced (op_written f op ops) ∙ spaced_append (plus_words f ++ op) (ops_behind true ops) ∙ ap (λ (t : List ℕ). t ++ spaced (ops_behind true ops)) (spaced_append (plus_words f) op) in
+    regroup text (spaced (plus_words f)) (spaced op) (spaced (ops_behind true ops)) ∙ ap (λ (t : List ℕ). text ++ t) (sym line)
+  where
+    regroup : (a b c d : List ℕ) → ((a ++ b) ++ c) ++ d ≡ a ++ ((b ++ c) ++ d)
+    regroup a b c d = simp append_assoc
+
+-- ---- the operations of a batch
+
+begun : (ops : List (List (List ℕ))) → ops_behind false ops ≡ joined ops
+begun [] = refl
+begun (op ∷ ops) = refl
+
+joined_behind : (a b : List (List (List ℕ))) → joined (a ++ b) ≡ joined a ++ ops_behind (has_some a) b
+joined_behind [] b = sym (begun b)
+joined_behind (op ∷ []) [] = sym (append-nil op)
+joined_behind (op ∷ []) (next ∷ b) = refl
+joined_behind (op ∷ next ∷ a) b = ap (λ (t : List (List ℕ)). op ++ (codes "+" ∷ t)) (joined_behind (next ∷ a) b) ∙ sym (append_assoc op (codes "+" ∷ joined (next ∷ a)) (ops_behind true b))
+
+some_map : {A B : Type 0} (f : A → B) (xs : List A) → has_some (map f xs) ≡ has_some xs
+some_map f [] = refl
+some_map f (x ∷ xs) = refl
+
+some_append : {A : Type 0} (a b : List A) → has_some (a ++ b) ≡ has_some a || has_some b
+some_append [] b = refl
+some_append (x ∷ a) b = refl
+
+batch_joined : (b : WriteBatch) → joined (batch_ops b) ≡ (ops_behind false (map put_op b.puts) ++ ops_behind (has_some b.puts) (map delete_op b.deletes)) ++ ops_behind (has_some b.puts || has_some b.deletes) (map range_op b.ranges)
+batch_joined b =
+    let two : has_some (map put_op b.puts ++ map delete_op b.deletes) ≡ has_some b.puts || has_some b.deletes = some_append (map put_op b.puts) (map delete_op b.deletes) ∙ rw (some_map put_op b.puts, some_map delete_op b.deletes) refl in
+    joined_behind (map put_op b.puts ++ map delete_op b.deletes) (map range_op b.ranges)
+    ∙ rw (two, joined_behind (map put_op b.puts) (map delete_op b.deletes), some_map put_op b.puts, begun (map put_op b.puts)) refl
+
+pub batch_text : (text : List ℕ) (b : WriteBatch) → ((text ++ spaced (ops_behind false (map put_op b.puts))) ++ spaced (ops_behind (has_some b.puts) (map delete_op b.deletes))) ++ spaced (ops_behind (has_some b.puts || has_some b.deletes) (map range_op b.ranges)) ≡ text ++ spaced (joined (batch_ops b))
+batch_text text b =
+    let p = ops_behind false (map put_op b.puts) in
+    let d = ops_behind (has_some b.puts) (map delete_op b.deletes) in
+    let r = ops_behind (has_some b.puts || has_some b.deletes) (map range_op b.ranges) in
+    let line : spaced (joined (batch_ops b)) ≡ (spaced p ++ spaced d) ++ spaced r = ap spaced (batch_joined b) ∙ spaced_append (p ++ d) r ∙ ap (λ (t : List ℕ). t ++ spaced r) (spaced_append p d) in
+    regroup text (spaced p) (spaced d) (spaced r) ∙ ap (λ (t : List ℕ). text ++ t) (sym line)
+  where
+    regroup : (a b c d : List ℕ) → ((a ++ b) ++ c) ++ d ≡ a ++ ((b ++ c) ++ d)
+    regroup a b c d = simp append_assoc
+
+-- ---- the line of an event
+
+pub client_text : (text : List ℕ) (node shard : ℕ) (r : Request) → (((text ++ codes "client") ++ spaced (decimal node ∷ [])) ++ spaced (decimal shard ∷ [])) ++ spaced (request_words r) ≡ text ++ event_line (Client node shard r)
+unfolding event_line
+client_text text node shard r =
+    regroup text (codes "client") (decimal node) (decimal shard) (spaced (request_words r))
+    ∙ ap (λ (t : List ℕ). text ++ t) (sym (join_spaced (codes "client") (decimal node ∷ decimal shard ∷ request_words r)))
+  where
+    regroup : (a b c d e : List ℕ) → (((a ++ b) ++ ((32 ∷ c) ++ [])) ++ ((32 ∷ d) ++ [])) ++ e ≡ a ++ (b ++ ((32 ∷ c) ++ ((32 ∷ d) ++ e)))
+    regroup a b c d e = simp (append-nil, append_assoc)

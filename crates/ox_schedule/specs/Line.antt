@@ -1,0 +1,26 @@
+-- The text of a line, word by word, as it is written.
+use Rattle.std.specs.Prelude.{ℕ, Bool, true, false, List, [], ◌∷◌, ◌++◌, codes, if◌then◌else◌}
+use Rattle.std.specs.List.{flat_map}
+use Rattle.ox_schedule.specs.Spelling.{joined}
+
+-- a word behind a space
+abbrev pub behind_space : List ℕ → List ℕ
+behind_space w = 32 ∷ w
+
+-- words, each behind a space
+abbrev pub spaced : List (List ℕ) → List ℕ
+spaced ws = flat_map behind_space ws
+
+-- are there items?
+abbrev pub has_some : {A : Type 0} → List A → Bool
+has_some [] = false
+has_some (x ∷ xs) = true
+
+-- the word between an operation and the one before it
+abbrev pub plus_words : Bool → List (List ℕ)
+plus_words follows = if follows then codes "+" ∷ [] else []
+
+-- operations, the first of which may follow another
+abbrev pub ops_behind : Bool → List (List (List ℕ)) → List (List ℕ)
+ops_behind follows [] = []
+ops_behind follows (op ∷ ops) = plus_words follows ++ joined (op ∷ ops)

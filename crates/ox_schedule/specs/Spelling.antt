@@ -1,0 +1,253 @@
+-- The grammar of a line: the words of each construct, and which constructs are lawful. A line is the words of its event.
+use Rattle.std.specs.Prelude.{◌≡◌, ℕ, ◌^◌, Bool, true, false, not, ◌&&◌, ◌||◌, ◌==◌, nat_le, nat_lt, is_none, List, [], ◌∷◌, ◌++◌, length, map, codes, decimal, if◌then◌else◌}
+use Rattle.std.specs.List.{list_all, flat_map, slice_split, join_with_byte}
+use Rattle.percent_encoding.specs.Percent.{percent_encode_byte}
+use Rattle.ox_bytes.specs.Fields as field
+use Rattle.ox_order.specs.declared.range.Lo.{Lo}
+use Rattle.ox_order.specs.declared.range.Lo.TheVariants.{Start, At, Past}
+use Rattle.ox_order.specs.declared.range.Hi.{Hi}
+use Rattle.ox_order.specs.declared.range.Hi.TheVariants.{End, Before}
+use Rattle.ox_order.specs.declared.range.KeyRange.{KeyRange}
+use Rattle.ox_ops.specs.declared.write.Expect.{Expect}
+use Rattle.ox_ops.specs.declared.write.Expect.TheVariants.{Any, Absent, Exactly}
+use Rattle.ox_ops.specs.declared.write.Put.{Put}
+use Rattle.ox_ops.specs.declared.write.Delete.{Delete}
+use Rattle.ox_ops.specs.declared.write.WriteBatch.{WriteBatch}
+use Rattle.ox_ops.specs.declared.write.ShardCommand.{ShardCommand}
+use Rattle.ox_ops.specs.declared.write.ShardCommand.TheVariants as command
+use Rattle.ox_ops.specs.declared.query.Compare.{Compare}
+use Rattle.ox_ops.specs.declared.query.Compare.TheVariants.{Equal, Floor, Ceiling, Lower, Higher}
+use Rattle.ox_ops.specs.declared.query.ShardQuery.{ShardQuery}
+use Rattle.ox_ops.specs.declared.query.ShardQuery.TheVariants as query
+use Rattle.ox_schedule.specs.declared.schedule.Grouping.{Grouping}
+use Rattle.ox_schedule.specs.declared.schedule.Grouping.TheVariants as grouping
+use Rattle.ox_schedule.specs.declared.schedule.Request.{Request}
+use Rattle.ox_schedule.specs.declared.schedule.Request.TheVariants.{Write, Read}
+use Rattle.ox_schedule.specs.declared.schedule.Event.{Event}
+use Rattle.ox_schedule.specs.declared.schedule.Event.TheVariants.{Client}
+use Rattle.ox_schedule.specs.declared.schedule.Places.{Places}
+
+-- ---- bytes and numbers
+
+-- letters, digits, and - _ . /
+abbrev pub is_plain : ℕ → Bool
+is_plain b = (nat_le 97 b && nat_le b 122) || (nat_le 65 b && nat_le b 90) || (nat_le 48 b && nat_le b 57) || b == 45 || b == 95 || b == 46 || b == 47
+
+-- a plain byte as it is, any other as % and two capital hexadecimal digits
+abbrev pub escape : ℕ → List ℕ
+escape b = if is_plain b then b ∷ [] else percent_encode_byte b
+
+-- the one spelling of bytes
+unfoldable pub spelt : List ℕ → List ℕ
+spelt bytes = flat_map escape bytes
+
+-- a number that a byte can be
+abbrev pub is_byte : ℕ → Bool
+is_byte b = nat_lt b 256
+
+-- bytes that are a key
+unfoldable pub is_key : List ℕ → Bool
+is_key key = list_all is_byte key && field.is_key key
+
+-- bytes that are a value
+unfoldable pub is_value : List ℕ → Bool
+is_value value = list_all is_byte value && field.is_value value
+
+-- a number of a schedule is any u64
+abbrev pub is_number : ℕ → Bool
+is_number n = nat_lt n (2 ^ 64)
+
+-- a value, or * for the empty one
+abbrev pub value_word : List ℕ → List ℕ
+value_word value = if length value == 0 then codes "*" else spelt value
+
+-- no items, as of a list that can't be spelt yet
+abbrev pub is_empty : {A : Type 0} → List A → Bool
+is_empty xs = length xs == 0
+
+-- ---- expectations and ranges
+
+-- the option of an expectation, where it isn't that of anything
+abbrev pub expect_words : Expect → List (List ℕ)
+expect_words Any = []
+expect_words Absent = codes "expect=absent" ∷ []
+expect_words (Exactly n) = (codes "expect=" ++ decimal n) ∷ []
+
+-- an expectation that can be spelt
+abbrev pub is_expect : Expect → Bool
+is_expect Any = true
+is_expect Absent = true
+is_expect (Exactly n) = is_number n
+
+-- the low end of a range: from the beginning, from a key, or past it
+abbrev pub lo_word : Lo → List ℕ
+lo_word Start = codes "*"
+lo_word (At key) = spelt key
+lo_word (Past key) = codes ">" ++ spelt key
+
+-- a low end that can be spelt
+abbrev pub is_lo : Lo → Bool
+is_lo Start = true
+is_lo (At key) = is_key key
+is_lo (Past key) = is_key key
+
+-- the high end of a range: to the end, or before a key
+abbrev pub hi_word : Hi → List ℕ
+hi_word End = codes "*"
+hi_word (Before key) = spelt key
+
+-- a high end that can be spelt
+abbrev pub is_hi : Hi → Bool
+is_hi End = true
+is_hi (Before key) = is_key key
+
+-- both ends of a range
+abbrev pub range_words : KeyRange → List (List ℕ)
+range_words r = lo_word r.lo ∷ hi_word r.hi ∷ []
+
+-- a range that can be spelt
+abbrev pub is_range : KeyRange → Bool
+is_range r = is_lo r.lo && is_hi r.hi
+
+-- ---- operations
+
+-- behind `put`: the key, the value and the option
+abbrev pub put_words : Put → List (List ℕ)
+put_words p = spelt p.key ∷ value_word p.value ∷ expect_words p.expect
+
+-- a put that can be spelt: until there are options for them, one without session, deltas and index entries
+abbrev pub is_put : Put → Bool
+is_put p = is_key p.key && is_value p.value && is_expect p.expect && is_none p.session && is_empty p.deltas && is_empty p.indexes
+
+-- behind `delete`: the key and the option
+abbrev pub delete_words : Delete → List (List ℕ)
+delete_words d = spelt d.key ∷ expect_words d.expect
+
+-- a delete that can be spelt
+abbrev pub is_delete : Delete → Bool
+is_delete d = is_key d.key && is_expect d.expect
+
+-- a put with its word
+abbrev pub put_op : Put → List (List ℕ)
+put_op p = codes "put" ∷ put_words p
+
+-- the same of a delete
+abbrev pub delete_op : Delete → List (List ℕ)
+delete_op d = codes "delete" ∷ delete_words d
+
+-- the same of a range delete
+abbrev pub range_op : KeyRange → List (List ℕ)
+range_op r = codes "deleterange" ∷ range_words r
+
+-- the operations of a batch, puts, then deletes, then ranges
+abbrev pub batch_ops : WriteBatch → List (List (List ℕ))
+batch_ops b = map put_op b.puts ++ map delete_op b.deletes ++ map range_op b.ranges
+
+-- with + between two
+abbrev pub joined : List (List (List ℕ)) → List (List ℕ)
+joined [] = []
+joined (op ∷ []) = op
+joined (op ∷ next ∷ ops) = op ++ (codes "+" ∷ joined (next ∷ ops))
+
+-- each operation can be spelt
+abbrev pub are_lawful : WriteBatch → Bool
+are_lawful b = list_all is_put b.puts && list_all is_delete b.deletes && list_all is_range b.ranges
+
+-- one operation by itself, one or more in a batch
+abbrev pub is_grouped : Grouping → ℕ → Bool
+is_grouped grouping.Alone count = count == 1
+is_grouped grouping.Batch count = not (count == 0)
+
+-- the word before the operations
+abbrev pub grouping_words : Grouping → List (List ℕ)
+grouping_words grouping.Alone = []
+grouping_words grouping.Batch = codes "batch" ∷ []
+
+-- ---- requests and events
+
+-- the words of a command
+abbrev pub command_words : Grouping → ShardCommand → List (List ℕ)
+command_words g (command.Write b) = grouping_words g ++ joined (batch_ops b)
+command_words g (command.Open timeout) = codes "open" ∷ decimal timeout ∷ []
+command_words g (command.Close session) = codes "close" ∷ decimal session ∷ []
+command_words g (command.Expire session) = codes "expire" ∷ decimal session ∷ []
+
+-- a command that can be spelt: until there are sessions, a write
+abbrev pub is_command : Grouping → ShardCommand → Bool
+is_command g (command.Write b) = are_lawful b && is_grouped g (length (batch_ops b))
+is_command g (command.Open timeout) = false
+is_command g (command.Close session) = false
+is_command g (command.Expire session) = false
+
+-- the word of a comparison
+abbrev pub compare_word : Compare → List ℕ
+compare_word Equal = codes "equal"
+compare_word Floor = codes "floor"
+compare_word Ceiling = codes "ceiling"
+compare_word Lower = codes "lower"
+compare_word Higher = codes "higher"
+
+-- the words of a query
+abbrev pub query_words : ShardQuery → List (List ℕ)
+query_words (query.Get compare key by) = codes "get" ∷ compare_word compare ∷ spelt key ∷ []
+query_words (query.List r by) = codes "list" ∷ range_words r
+query_words (query.Scan r by) = codes "scan" ∷ range_words r
+query_words (query.Notices n skip) = codes "notices" ∷ decimal n ∷ decimal skip ∷ []
+query_words (query.KeepAlive session) = codes "keep" ∷ decimal session ∷ []
+
+-- a query that can be spelt: until there are indexes, notices and sessions, one by the key order
+abbrev pub is_query : ShardQuery → Bool
+is_query (query.Get compare key by) = is_key key && is_none by
+is_query (query.List r by) = is_range r && is_none by
+is_query (query.Scan r by) = is_range r && is_none by
+is_query (query.Notices n skip) = false
+is_query (query.KeepAlive session) = false
+
+-- the words of a request
+abbrev pub request_words : Request → List (List ℕ)
+request_words (Write g command) = command_words g command
+request_words (Read query) = query_words query
+
+-- a request that can be spelt
+abbrev pub is_request : Request → Bool
+is_request (Write g command) = is_command g command
+is_request (Read query) = is_query query
+
+-- the words of an event
+abbrev pub event_words : Event → List (List ℕ)
+event_words (Client node shard r) = codes "client" ∷ decimal node ∷ decimal shard ∷ request_words r
+
+-- the line of an event: its words with one space between two
+unfoldable pub event_line : Event → List ℕ
+event_line e = join_with_byte 32 (event_words e)
+
+-- nodes are numbered from 1
+abbrev pub is_node : Places → ℕ → Bool
+is_node p n = nat_le 1 n && nat_le n p.nodes
+
+-- shards are numbered from 0
+abbrev pub is_shard : Places → ℕ → Bool
+is_shard p s = nat_lt s p.shards
+
+-- an event at a node and a shard that are there
+abbrev pub is_event : Places → Event → Bool
+is_event p (Client node shard r) = is_number node && is_node p node && is_number shard && is_shard p shard && is_request r
+
+-- the line spells the event, among these places
+pub record SpellsEvent (places : Places) (line : List ℕ) (e : Event) : Type 0 where
+  pub lawful : is_event places e ≡ true
+  pub same : line ≡ event_line e
+
+-- ---- words
+
+-- the words of a line, between one space and the next
+abbrev pub words_of : List ℕ → List (List ℕ)
+words_of line = slice_split (λ b. b == 32) line
+
+-- printable ASCII, and no space
+abbrev pub is_printable : ℕ → Bool
+is_printable b = nat_le 33 b && nat_le b 126
+
+-- one byte or more, all of them printable
+abbrev pub is_word : List ℕ → Bool
+is_word w = not (length w == 0) && list_all is_printable w

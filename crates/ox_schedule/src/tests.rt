@@ -1,0 +1,207 @@
+use super::*;
+use ox_types::{Key, LineRule, NoMemory, Octets, Value};
+use std::alloc::Global;
+use std::test::Fail;
+
+/// The first line and its rule at fault.
+fn fault_of(alloc: Global, text: &[u8]) -> Result<Option<(u64, LineRule)>, NoMemory> {
+    match read_schedule(alloc, text) {
+        Ok(_) => Ok(None),
+        Err(ScheduleFault::BadLine { line, rule }) => Ok(Some((line, rule))),
+        Err(ScheduleFault::NoMemory) => Err(NoMemory),
+    }
+}
+
+/// The same for this line behind a first one.
+fn fault_behind(alloc: Global, line: &[u8]) -> Result<Option<(u64, LineRule)>, NoMemory> {
+    let mut text = Octets::from_slice(alloc, b"solo 1\n")?;
+    text.extend(line)?;
+    fault_of(alloc, text.as_slice())
+}
+
+/// The lines of the events that are read, each with a line feed.
+fn written(alloc: Global, text: &[u8]) -> Result<Octets, NoMemory> {
+    let mut lines = Octets::new(alloc);
+    if let Ok(schedule) = read_schedule(alloc, text) {
+        for event in schedule.events.as_slice() {
+            add_event(alloc, &mut lines, event)?;
+            lines.extend(b"\n")?;
+        }
+    }
+    Ok(lines)
+}
+
+#[test]
+fn events_are_written_as_they_are_read(rt: HostRuntime) -> Result<(), Fail> {
+    let lines =
+        b"client 1 0 put a/b-c_d.E9 %25%0A%FF expect=absent\nclient 1 0 put %2A * expect=18446744073709551615\nclient 1 0 delete a\nclient 1 0 delete a expect=0\nclient 1 0 deleterange * %20\nclient 1 0 deleterange >a b\nclient 1 0 batch put a *\nclient 1 0 batch put a * + put b x expect=0 + delete c + deleterange >a b + deleterange b *\nclient 1 0 batch delete c + delete d\nclient 1 0 get equal a\nclient 1 0 get floor a\nclient 1 0 get ceiling a\nclient 1 0 get lower a\nclient 1 0 get higher a\nclient 1 0 list * *\nclient 1 0 scan a *\n";
+    let mut text = Octets::from_slice(rt.alloc(), b"solo 1\n")?;
+    text.extend(lines.as_slice())?;
+    let again = written(rt.alloc(), text.as_slice())?;
+    assert_eq!(rt; again.as_slice(), lines.as_slice());
+    Ok(())
+}
+
+#[test]
+fn keys_and_values_are_spelt(rt: HostRuntime) -> Result<(), Fail> {
+    let key = Key::try_new(Vec::from_slice(rt.alloc(), b"a b~/%")?)?;
+    let value = Value::try_new(Vec::new(rt.alloc()))?;
+    let mut text = Octets::new(rt.alloc());
+    add_key(rt.alloc(), &mut text, &key)?;
+    add_value(rt.alloc(), &mut text, &value)?;
+    assert_eq!(rt; text.as_slice(), b"a%20b%7E/%25*".as_slice());
+    Ok(())
+}
+
+#[test]
+fn bad_first_lines(rt: HostRuntime) -> Result<(), Fail> {
+    let cases: [(&[u8], LineRule); 14] = [
+        (b"", LineRule::First),
+        (b"\n", LineRule::First),
+        (b"solo", LineRule::First),
+        (b"solo 1 8", LineRule::First),
+        (b"cluster 1 1 1", LineRule::First),
+        (b"client 1 0 get equal a", LineRule::First),
+        (b"Solo 1", LineRule::First),
+        (b"solo  1", LineRule::Bytes),
+        (b" solo 1", LineRule::Bytes),
+        (b"cluster\t1", LineRule::Bytes),
+        (b"solo 1\r\n", LineRule::Bytes),
+        (b"solo 2", LineRule::Number),
+        (b"solo 0", LineRule::Number),
+        (b"solo 01", LineRule::Number),
+    ];
+    for (text, rule) in cases {
+        assert_eq!(rt; fault_of(rt.alloc(), text)?, Some((1, rule)));
+    }
+    Ok(())
+}
+
+#[test]
+fn bad_words(rt: HostRuntime) -> Result<(), Fail> {
+    let cases: [(&[u8], LineRule); 29] = [
+        (b"client 1 0 put a\x7f x", LineRule::Bytes),
+        (b"client 1 0 put a\xc3 x", LineRule::Bytes),
+        (b"client 1 0 put a x \n", LineRule::Bytes),
+        (b"client 1  0 frob", LineRule::Bytes),
+        (b"client 1 0 put a x\r\n", LineRule::Bytes),
+        (b"\n", LineRule::Word),
+        (b"tick 1 0 5", LineRule::Word),
+        (b"client x 0 frob", LineRule::Word),
+        (b"client 1 0 open 5000", LineRule::Word),
+        (b"client 1 0 close 1", LineRule::Word),
+        (b"client 1 0 keep 1", LineRule::Word),
+        (b"client 1 0 notices 0 0", LineRule::Word),
+        (b"client 1 0", LineRule::Word),
+        (b"client 1 0 put %41", LineRule::Word),
+        (b"client 1 0 delete %41 frob frob", LineRule::Word),
+        (b"client 1 0 deleterange a b c", LineRule::Word),
+        (b"client 1 0 get equals a", LineRule::Word),
+        (b"client 1 0 get equal a b c", LineRule::Word),
+        (b"client 1 0 list *", LineRule::Word),
+        (b"client 1 0 scan * * a b", LineRule::Word),
+        (b"client 1 0 batch", LineRule::Word),
+        (b"client 1 0 batch put a b +", LineRule::Word),
+        (b"client 1 0 batch + put a b", LineRule::Word),
+        (b"client 1 0 batch put a b + + delete c", LineRule::Word),
+        (b"client 1 0 batch put a b + get equal a", LineRule::Word),
+        (
+            b"client 1 0 batch delete c + put a b + frob",
+            LineRule::Word,
+        ),
+        (b"client 1 0 batch delete c + put % b", LineRule::Order),
+        (
+            b"client 1 0 batch deleterange a b + put a b",
+            LineRule::Order,
+        ),
+        (
+            b"client 1 0 batch deleterange a b + delete a",
+            LineRule::Order,
+        ),
+    ];
+    for (line, rule) in cases {
+        assert_eq!(rt; fault_behind(rt.alloc(), line)?, Some((2, rule)));
+    }
+    Ok(())
+}
+
+#[test]
+fn bad_fields(rt: HostRuntime) -> Result<(), Fail> {
+    let cases: [(&[u8], LineRule); 38] = [
+        (b"client 01 0 put % %", LineRule::Number),
+        (b"client x 0 put % %", LineRule::Number),
+        (b"client 2 x put % %", LineRule::Name),
+        (b"client 1 -1 put % %", LineRule::Number),
+        (b"client 18446744073709551616 0 put a b", LineRule::Number),
+        (b"client 18446744073709551615 0 put a b", LineRule::Name),
+        (b"client 0 0 put % %", LineRule::Name),
+        (b"client 1 1 put % %", LineRule::Name),
+        (b"client 1 0 put % %", LineRule::Key),
+        (b"client 1 0 put %2a b", LineRule::Key),
+        (b"client 1 0 put %41 b", LineRule::Key),
+        (b"client 1 0 put %2F b", LineRule::Key),
+        (b"client 1 0 put * b", LineRule::Key),
+        (b"client 1 0 put a+b b", LineRule::Key),
+        (b"client 1 0 delete %4", LineRule::Key),
+        (b"client 1 0 deleterange >* b", LineRule::Key),
+        (b"client 1 0 list a >b", LineRule::Key),
+        (b"client 1 0 get equal __oxia/x", LineRule::Key),
+        (b"client 1 0 batch delete % + put a b", LineRule::Key),
+        (b"client 1 0 put a % expect=01", LineRule::Value),
+        (b"client 1 0 put a %41", LineRule::Value),
+        (b"client 1 0 put a %0a", LineRule::Value),
+        (b"client 1 0 put a x=y", LineRule::Value),
+        (b"client 1 0 put a %2F", LineRule::Value),
+        (b"client 1 0 put a x expect=01", LineRule::Number),
+        (b"client 1 0 put a x expect=Absent", LineRule::Number),
+        (b"client 1 0 put a x expect=", LineRule::Number),
+        (
+            b"client 1 0 put a x expect=18446744073709551616",
+            LineRule::Number,
+        ),
+        (b"client 1 0 put a x expect", LineRule::Option),
+        (b"client 1 0 put a x expect=1 expect=x", LineRule::Option),
+        (b"client 1 0 put a x session=x expect=1", LineRule::Option),
+        (b"client 1 0 put a x seq=1", LineRule::Option),
+        (b"client 1 0 put a x index=n:k", LineRule::Option),
+        (b"client 1 0 delete a session=1", LineRule::Option),
+        (b"client 1 0 get equal a by=n", LineRule::Option),
+        (b"client 1 0 list * * by=n", LineRule::Option),
+        (b"client 1 0 scan * * expect=1", LineRule::Option),
+        (b"client 1 0 batch put a x frob + put % x", LineRule::Option),
+    ];
+    for (line, rule) in cases {
+        assert_eq!(rt; fault_behind(rt.alloc(), line)?, Some((2, rule)));
+    }
+    Ok(())
+}
+
+#[test]
+fn the_first_bad_line_is_told(rt: HostRuntime) -> Result<(), Fail> {
+    let text =
+        b"solo 1\nclient 1 0 put longer-line-than-the-next x\nclient 1 0 get equal =\nfrob\n";
+    assert_eq!(rt; fault_of(rt.alloc(), text)?, Some((3, LineRule::Key)));
+    Ok(())
+}
+
+/// The fault of one put, with a key and a value of these lengths.
+fn fault_at(alloc: Global, key: usize, value: usize) -> Result<Option<(u64, LineRule)>, NoMemory> {
+    let mut text = Octets::from_slice(alloc, b"solo 1\nclient 1 0 put ")?;
+    text.extend(vec![in alloc; b'k'; key]?.as_slice())?;
+    text.extend(b" ")?;
+    text.extend(vec![in alloc; b'v'; value]?.as_slice())?;
+    fault_of(alloc, text.as_slice())
+}
+
+#[test]
+fn keys_and_values_at_their_limits(rt: HostRuntime) -> Result<(), Fail> {
+    let cases: [(usize, usize, Option<(u64, LineRule)>); 3] = [
+        (4096, 1_048_576, None),
+        (4097, 1, Some((2, LineRule::Key))),
+        (1, 1_048_577, Some((2, LineRule::Value))),
+    ];
+    for (key, value, fault) in cases {
+        assert_eq!(rt; fault_at(rt.alloc(), key, value)?, fault);
+    }
+    Ok(())
+}

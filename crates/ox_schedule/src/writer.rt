@@ -1,0 +1,324 @@
+// The line of an event, word by word, each word behind a space; and the spelling of keys and values.
+ghost use Rattle.std.specs.Prelude.{◌≡◌, ◌||◌, ◌++◌, ◌∷◌, [], OnOk, OnErr, map, decimal, codes};
+ghost use Rattle.ox_schedule.specs.Spelling.{spelt, value_word, expect_words, lo_word, hi_word, range_words, put_op, delete_op, range_op, joined, batch_ops, grouping_words, command_words, compare_word, query_words, request_words, event_line};
+ghost use Rattle.ox_schedule.specs.declared.schedule.Event.TheVariants.{Client};
+ghost use Rattle.ox_schedule.specs.Line.{spaced, has_some, plus_words, ops_behind};
+
+use crate::escape::spelling;
+use crate::schedule::{Event, Grouping, Request};
+use itoa::Buffer;
+use ox_ops::{
+    Compare, Delete, Expect, Hi, KeyRange, Lo, Put, ShardCommand, ShardQuery, WriteBatch,
+};
+use ox_types::{Key, NoMemory, Octets, Value};
+use std::alloc::Global;
+
+fn add_number(text: &mut Octets, number: u64) -> Result<(), NoMemory>
+    ensures { OnOk result (text.new ≡ text.old ++ spaced (decimal number ∷ [])) }
+{
+    text.extend(b" ")?;
+    text.extend(Buffer::new().format(number).as_bytes())
+}
+
+/// Adds the spelling of a key, as it stands in a line. It costs its bytes, and takes memory for its text too.
+/// Where memory runs out, nothing is added.
+pub fn add_key(alloc: Global, text: &mut Octets, key: &Key) -> Result<(), NoMemory>
+    ensures ok { OnOk result (text.new ≡ text.old ++ spelt key.now) }
+    ensures err { OnErr result (text.new ≡ text.old) }
+{
+    let word = spelling(alloc, key.bytes())?;
+    text.extend(word.as_bytes())
+}
+
+/// Adds the spelling of a value, `*` for the empty one, at the same cost as that of a key. Where memory runs out,
+/// nothing is added.
+pub fn add_value(alloc: Global, text: &mut Octets, value: &Value) -> Result<(), NoMemory>
+    ensures ok { OnOk result (text.new ≡ text.old ++ value_word value.now) }
+    ensures err { OnErr result (text.new ≡ text.old) }
+{
+    let bytes = value.bytes();
+    if bytes.is_empty() {
+        return text.extend(b"*");
+    }
+    let word = spelling(alloc, bytes)?;
+    text.extend(word.as_bytes())
+}
+
+fn add_expect(text: &mut Octets, expect: Expect) -> Result<(), NoMemory>
+    ensures { OnOk result (text.new ≡ text.old ++ spaced (expect_words expect)) }
+{
+    match expect {
+        Expect::Any => Ok(()),
+        Expect::Absent => text.extend(b" expect=absent"),
+        Expect::Exactly(version) => {
+            text.extend(b" expect=")?;
+            text.extend(Buffer::new().format(version).as_bytes())
+        }
+    }
+}
+
+fn add_lo(alloc: Global, text: &mut Octets, lo: &Lo) -> Result<(), NoMemory>
+    ensures { OnOk result (text.new ≡ text.old ++ spaced (lo_word lo.now ∷ [])) }
+{
+    match lo {
+        Lo::Start => text.extend(b" *"),
+        Lo::At(key) => {
+            text.extend(b" ")?;
+            add_key(alloc, text, key)
+        }
+        Lo::Past(key) => {
+            text.extend(b" >")?;
+            add_key(alloc, text, key)
+        }
+    }
+}
+
+fn add_hi(alloc: Global, text: &mut Octets, hi: &Hi) -> Result<(), NoMemory>
+    ensures { OnOk result (text.new ≡ text.old ++ spaced (hi_word hi.now ∷ [])) }
+{
+    match hi {
+        Hi::End => text.extend(b" *"),
+        Hi::Before(key) => {
+            text.extend(b" ")?;
+            add_key(alloc, text, key)
+        }
+    }
+}
+
+fn add_range(alloc: Global, text: &mut Octets, range: &KeyRange) -> Result<(), NoMemory>
+    ensures { OnOk result (text.new ≡ text.old ++ spaced (range_words range.now)) }
+{
+    add_lo(alloc, text, &range.lo)?;
+    add_hi(alloc, text, &range.hi)
+}
+
+fn add_put(alloc: Global, text: &mut Octets, put: &Put) -> Result<(), NoMemory>
+    ensures { OnOk result (text.new ≡ text.old ++ spaced (put_op put.now)) }
+{
+    text.extend(b" put ")?;
+    add_key(alloc, text, &put.key)?;
+    text.extend(b" ")?;
+    add_value(alloc, text, &put.value)?;
+    add_expect(text, put.expect)
+}
+
+fn add_delete(alloc: Global, text: &mut Octets, delete: &Delete) -> Result<(), NoMemory>
+    ensures { OnOk result (text.new ≡ text.old ++ spaced (delete_op delete.now)) }
+{
+    text.extend(b" delete ")?;
+    add_key(alloc, text, &delete.key)?;
+    add_expect(text, delete.expect)
+}
+
+fn add_range_op(alloc: Global, text: &mut Octets, range: &KeyRange) -> Result<(), NoMemory>
+    ensures { OnOk result (text.new ≡ text.old ++ spaced (range_op range.now)) }
+{
+    text.extend(b" deleterange")?;
+    add_range(alloc, text, range)
+}
+
+fn add_plus(text: &mut Octets, follows: bool) -> Result<(), NoMemory>
+    ensures { OnOk result (text.new ≡ text.old ++ spaced (plus_words follows)) }
+{
+    if follows {
+        return text.extend(b" +");
+    }
+    Ok(())
+}
+
+fn add_puts(
+    alloc: Global,
+    text: &mut Octets,
+    mut follows: bool,
+    puts: &[Put],
+) -> Result<(), NoMemory>
+    ensures { OnOk result (text.new ≡ text.old ++ spaced (ops_behind follows (map put_op puts.now))) }
+{
+    for put in puts {
+        add_plus(text, follows)?;
+        add_put(alloc, text, put)?;
+        follows = true;
+    }
+    Ok(())
+}
+
+fn add_deletes(
+    alloc: Global,
+    text: &mut Octets,
+    mut follows: bool,
+    deletes: &[Delete],
+) -> Result<(), NoMemory>
+    ensures { OnOk result (text.new ≡ text.old ++ spaced (ops_behind follows (map delete_op deletes.now))) }
+{
+    for delete in deletes {
+        add_plus(text, follows)?;
+        add_delete(alloc, text, delete)?;
+        follows = true;
+    }
+    Ok(())
+}
+
+fn add_ranges(
+    alloc: Global,
+    text: &mut Octets,
+    mut follows: bool,
+    ranges: &[KeyRange],
+) -> Result<(), NoMemory>
+    ensures { OnOk result (text.new ≡ text.old ++ spaced (ops_behind follows (map range_op ranges.now))) }
+{
+    for range in ranges {
+        add_plus(text, follows)?;
+        add_range_op(alloc, text, range)?;
+        follows = true;
+    }
+    Ok(())
+}
+
+fn has_items<T>(items: &[T]) -> bool
+    ensures { result ≡ has_some items.now }
+{
+    match items {
+        [] => false,
+        [_, ..] => true,
+    }
+}
+
+/// Whether a range of the batch follows another operation.
+fn follow_others(batch: &WriteBatch) -> bool
+    ensures { result ≡ has_some batch.now.puts || has_some batch.now.deletes }
+{
+    has_items(batch.puts.as_slice()) || has_items(batch.deletes.as_slice())
+}
+
+/// The operations, with `+` between two.
+fn add_ops(alloc: Global, text: &mut Octets, batch: &WriteBatch) -> Result<(), NoMemory>
+    ensures { OnOk result (text.new ≡ text.old ++ spaced (joined (batch_ops batch.now))) }
+{
+    let puts = batch.puts.as_slice();
+    add_puts(alloc, text, false, puts)?;
+    add_deletes(alloc, text, has_items(puts), batch.deletes.as_slice())?;
+    add_ranges(alloc, text, follow_others(batch), batch.ranges.as_slice())
+}
+
+fn add_grouping(text: &mut Octets, grouping: Grouping) -> Result<(), NoMemory>
+    ensures { OnOk result (text.new ≡ text.old ++ spaced (grouping_words grouping)) }
+{
+    match grouping {
+        Grouping::Alone => Ok(()),
+        Grouping::Batch => text.extend(b" batch"),
+    }
+}
+
+fn add_command(
+    alloc: Global,
+    text: &mut Octets,
+    grouping: Grouping,
+    command: &ShardCommand,
+) -> Result<(), NoMemory>
+    ensures { OnOk result (text.new ≡ text.old ++ spaced (command_words grouping command.now)) }
+{
+    match command {
+        ShardCommand::Write(batch) => {
+            add_grouping(text, grouping)?;
+            add_ops(alloc, text, batch)
+        }
+        ShardCommand::Open { timeout } => {
+            text.extend(b" open")?;
+            add_number(text, *timeout)
+        }
+        ShardCommand::Close { session } => {
+            text.extend(b" close")?;
+            add_number(text, *session)
+        }
+        ShardCommand::Expire { session } => {
+            text.extend(b" expire")?;
+            add_number(text, *session)
+        }
+    }
+}
+
+fn add_compare(text: &mut Octets, compare: Compare) -> Result<(), NoMemory>
+    ensures { OnOk result (text.new ≡ text.old ++ spaced (compare_word compare ∷ [])) }
+{
+    match compare {
+        Compare::Equal => text.extend(b" equal"),
+        Compare::Floor => text.extend(b" floor"),
+        Compare::Ceiling => text.extend(b" ceiling"),
+        Compare::Lower => text.extend(b" lower"),
+        Compare::Higher => text.extend(b" higher"),
+    }
+}
+
+fn add_get(alloc: Global, text: &mut Octets, compare: Compare, key: &Key) -> Result<(), NoMemory>
+    ensures { OnOk result (text.new ≡ text.old ++ spaced (codes "get" ∷ compare_word compare ∷ spelt key.now ∷ [])) }
+{
+    text.extend(b" get")?;
+    add_compare(text, compare)?;
+    text.extend(b" ")?;
+    add_key(alloc, text, key)
+}
+
+fn add_query(alloc: Global, text: &mut Octets, query: &ShardQuery) -> Result<(), NoMemory>
+    ensures { OnOk result (text.new ≡ text.old ++ spaced (query_words query.now)) }
+{
+    match query {
+        ShardQuery::Get { compare, key, .. } => add_get(alloc, text, *compare, key),
+        ShardQuery::List { range, .. } => {
+            text.extend(b" list")?;
+            add_range(alloc, text, range)
+        }
+        ShardQuery::Scan { range, .. } => {
+            text.extend(b" scan")?;
+            add_range(alloc, text, range)
+        }
+        ShardQuery::Notices { after, skip } => {
+            text.extend(b" notices")?;
+            add_number(text, *after)?;
+            add_number(text, *skip)
+        }
+        ShardQuery::KeepAlive { session } => {
+            text.extend(b" keep")?;
+            add_number(text, *session)
+        }
+    }
+}
+
+fn add_request(alloc: Global, text: &mut Octets, request: &Request) -> Result<(), NoMemory>
+    ensures { OnOk result (text.new ≡ text.old ++ spaced (request_words request.now)) }
+{
+    match request {
+        Request::Write { grouping, command } => add_command(alloc, text, *grouping, command),
+        Request::Read(query) => add_query(alloc, text, query),
+    }
+}
+
+fn add_client(
+    alloc: Global,
+    text: &mut Octets,
+    node: u64,
+    shard: u64,
+    request: &Request,
+) -> Result<(), NoMemory>
+    ensures { OnOk result (text.new ≡ text.old ++ event_line (Client node shard request.now)) }
+{
+    text.extend(b"client")?;
+    add_number(text, node)?;
+    add_number(text, shard)?;
+    add_request(alloc, text, request)
+}
+
+/// Adds the line of an event, without a line feed: of an event of a schedule, the very line that was read. It costs the
+/// line, which is made in memory of its own first. Where memory runs out, nothing is added.
+pub fn add_event(alloc: Global, text: &mut Octets, event: &Event) -> Result<(), NoMemory>
+    ensures ok { OnOk result (text.new ≡ text.old ++ event_line event.now) }
+    ensures err { OnErr result (text.new ≡ text.old) }
+{
+    let Event::Client {
+        node,
+        shard,
+        request,
+    } = event;
+    let mut line = Octets::new(alloc);
+    add_client(alloc, &mut line, *node, *shard, request)?;
+    text.extend(line.as_slice())
+}
