@@ -1,0 +1,5 @@
+mod Found
+mod Pairs
+mod Sizes
+mod Pages
+mod Queries
