@@ -3,3 +3,8 @@ mod Pairs
 mod Sizes
 mod Pages
 mod Queries
+mod Placed
+mod Sound
+mod Kept
+mod Runs
+mod Sequences

@@ -2,12 +2,23 @@
 //! what faster stores are told by.
 #![tactic(auto)]
 
+mod apply;
 mod copy;
+mod delete;
 mod index;
 mod keyed;
+mod numbers;
+mod outcome;
 mod page;
+mod plain;
+mod put;
 mod query;
 mod records;
+mod retention;
+mod sequence;
+mod session;
 mod size;
 mod state;
 mod weight;
+
+pub use plain::{Plain, fits};

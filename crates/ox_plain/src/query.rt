@@ -11,9 +11,7 @@ use crate::index::{Pair, make_pairs};
 use crate::keyed::{find_compared, find_record};
 use crate::page::cut_page;
 use crate::state::{State, has_session};
-use ox_ops::{
-    Compare, KeyRange, NoticeBatch, NoticeItem, Record, ShardAnswer, ShardQuery,
-};
+use ox_ops::{Compare, KeyRange, NoticeBatch, NoticeItem, Record, ShardAnswer, ShardQuery};
 use ox_types::{Key, List, NoMemory, Octets};
 use std::alloc::Global;
 
@@ -27,14 +25,25 @@ fn copy_found(alloc: Global, found: Option<&Record>) -> Result<Option<Record>, N
 }
 
 /// The record that a get finds in the order of keys.
-fn get_by_key(alloc: Global, records: &[Record], compare: Compare, key: &Key) -> Result<Option<Record>, NoMemory>
+fn get_by_key(
+    alloc: Global,
+    records: &[Record],
+    compare: Compare,
+    key: &Key,
+) -> Result<Option<Record>, NoMemory>
     ensures { IfOk result (λ found. found ≡ compared (λ (r : RecordSpec). r.key) compare key.now records.now) }
 {
     copy_found(alloc, find_compared(records, compare, key))
 }
 
 /// The record that a get finds by an index.
-fn get_by_index(alloc: Global, records: &[Record], compare: Compare, key: &Key, name: &Octets) -> Result<Option<Record>, NoMemory>
+fn get_by_index(
+    alloc: Global,
+    records: &[Record],
+    compare: Compare,
+    key: &Key,
+    name: &Octets,
+) -> Result<Option<Record>, NoMemory>
     ensures { IfOk result (λ found. found ≡ option_and_then (record_of_pair records.now) (compared (λ (p : IndexPair). p.second) compare key.now (pairs_of name.now records.now))) }
 {
     let pairs = make_pairs(alloc, name, records)?;
@@ -45,7 +54,11 @@ fn get_by_index(alloc: Global, records: &[Record], compare: Compare, key: &Key, 
 }
 
 /// The records of a range of keys.
-fn match_by_key(alloc: Global, records: &[Record], range: &KeyRange) -> Result<List<Record>, NoMemory>
+fn match_by_key(
+    alloc: Global,
+    records: &[Record],
+    range: &KeyRange,
+) -> Result<List<Record>, NoMemory>
     ensures { IfOk result (λ found. found ≡ filter (λ (r : RecordSpec). in_range range.now r.key) records.now) }
 {
     let mut found = List::new(alloc);
@@ -58,7 +71,12 @@ fn match_by_key(alloc: Global, records: &[Record], range: &KeyRange) -> Result<L
 }
 
 /// Adds the record of the pair, if there is one.
-fn add_record(found: &mut List<Record>, alloc: Global, records: &[Record], pair: &Pair) -> Result<(), NoMemory>
+fn add_record(
+    found: &mut List<Record>,
+    alloc: Global,
+    records: &[Record],
+    pair: &Pair,
+) -> Result<(), NoMemory>
     ensures { OnOk result (found.new ≡ found.old ++ option_to_list (record_of_pair records.now pair.now)) }
 {
     match find_record(records, &pair.key) {
@@ -68,7 +86,12 @@ fn add_record(found: &mut List<Record>, alloc: Global, records: &[Record], pair:
 }
 
 /// The records of the pairs whose secondary keys stand in the range.
-fn match_pairs(alloc: Global, records: &[Record], range: &KeyRange, pairs: &[Pair]) -> Result<List<Record>, NoMemory>
+fn match_pairs(
+    alloc: Global,
+    records: &[Record],
+    range: &KeyRange,
+    pairs: &[Pair],
+) -> Result<List<Record>, NoMemory>
     ensures { IfOk result (λ found. found ≡ filter_map (record_of_pair records.now) (filter (λ (p : IndexPair). in_range range.now p.second) pairs.now)) }
 {
     let mut found = List::new(alloc);
@@ -104,7 +127,11 @@ fn add_items(items: &mut List<NoticeItem>, batch: &NoticeBatch) -> Result<(), No
 }
 
 /// The items of the batches with an offset above this.
-fn collect_items(alloc: Global, batches: &[NoticeBatch], after: u64) -> Result<List<NoticeItem>, NoMemory>
+fn collect_items(
+    alloc: Global,
+    batches: &[NoticeBatch],
+    after: u64,
+) -> Result<List<NoticeItem>, NoMemory>
     ensures { IfOk result (λ items. items ≡ items_after after batches.now) }
 {
     let mut items = List::new(alloc);
@@ -126,7 +153,12 @@ fn skip_items(items: List<NoticeItem>, skip: u64) -> Result<List<NoticeItem>, No
 }
 
 impl State {
-    fn get(&self, compare: Compare, key: &Key, by: &Option<Octets>) -> Result<Option<Record>, NoMemory>
+    fn get(
+        &self,
+        compare: Compare,
+        key: &Key,
+        by: &Option<Octets>,
+    ) -> Result<Option<Record>, NoMemory>
         ensures { IfOk result (λ found. found ≡ got self.now compare key.now by.now) }
     {
         let records = self.records.as_slice();

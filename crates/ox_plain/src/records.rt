@@ -30,7 +30,7 @@ pub fn remove_range(records: List<Record>, range: &KeyRange) -> List<Record>
     List::from_vec(records)
 }
 
-fn belongs(item: &Record, id: u64) -> bool
+pub fn belongs(item: &Record, id: u64) -> bool
     ensures { result ≡ is_member id item.now }
 {
     match item.session {
@@ -71,7 +71,11 @@ pub fn count_range(records: &[Record], range: &KeyRange) -> usize
 }
 
 /// The records before the key, and those past it.
-fn split(alloc: Global, records: Vec<Record>, key: &Key) -> Result<(Vec<Record>, Vec<Record>), NoMemory>
+fn split(
+    alloc: Global,
+    records: Vec<Record>,
+    key: &Key,
+) -> Result<(Vec<Record>, Vec<Record>), NoMemory>
     ensures { IfOk result (λ parts. Split key.now records.items parts.0.items parts.1.items) }
 {
     let mut below = Vec::new(alloc);
@@ -87,13 +91,15 @@ fn split(alloc: Global, records: Vec<Record>, key: &Key) -> Result<(Vec<Record>,
 }
 
 /// The records with this one in its place, and in the place of the one of its key.
-pub fn place_record(alloc: Global, item: Record, records: List<Record>) -> Result<List<Record>, NoMemory>
+pub fn place_record(
+    alloc: Global,
+    item: Record,
+    records: List<Record>,
+) -> Result<List<Record>, NoMemory>
     ensures { IfOk result (λ placed. placed ≡ with_record item records) }
 {
-    let (mut placed, above) = split(alloc, records.into_vec(), &item.key)?;
+    let (mut placed, mut above) = split(alloc, records.into_vec(), &item.key)?;
     placed.push(item)?;
-    for other in above {
-        placed.push(other)?;
-    }
+    placed.append(&mut above)?;
     Ok(List::from_vec(placed))
 }

@@ -1,16 +1,17 @@
 //! What records, notices and batches weigh. A sum past the greatest number stands at it.
-ghost use Rattle.std.specs.Prelude.{◌≡◌, ◌≤◌, ◌-◌, ◌^◌, filter, min, sum_by};
+ghost use Rattle.std.specs.Prelude.{◌≡◌, ◌≤◌, ◌+◌, ◌-◌, ◌^◌, filter, min, sum_by};
 ghost use Rattle.std.specs.Ordering.{is_lt};
 ghost use Rattle.ox_types.specs.Order.{key_cmp};
 ghost use Rattle.ox_ops.specs.declared.answer.Record.{Record as RecordSpec};
-ghost use Rattle.ox_ops.specs.Weight.{record_weight, notice_weight, batch_weight, lo_weight, hi_weight};
+ghost use Rattle.ox_ops.specs.Weight.{entry_weight, record_weight, notice_weight, batch_weight, lo_weight, hi_weight};
 
 use crate::size::weigh_entries;
 use ox_ops::{Hi, Lo, Notice, NoticeBatch, Record};
 use ox_types::Key;
 
 pub fn weigh_record(of: &Record) -> u64
-    ensures { result ≡ min (record_weight of.now) (2 ^ 64 - 1) }
+    ensures exact { result ≡ min (record_weight of.now) (2 ^ 64 - 1) }
+    ensures small { record_weight of.now ≤ 1052736 + sum_by entry_weight of.now.indexes }
 {
     let bytes = of.key.bytes().len() as u64 + of.value.bytes().len() as u64 + 64;
     bytes.saturating_add(weigh_entries(of.indexes.as_slice()))

@@ -9,10 +9,11 @@ returns-then-size-room-clause-exact g c =
 
 pub loop-count-preserved : goal.loop-count-preserved
 loop-count-preserved g c = (
-    omega arith,
-    omega arith,
-    count-goes _ _ _ _ c.loop-count.invariant.2
-    (turn-fits g.T.Measured.size c.args.items.now c.loop-count.count c.loop-count.room c.size-size.result c.index-items-count.result c.loop-count-test.true c.index-items-count.is c.loop-count.invariant.0 c.if-count-eq-PAGE_ITEMS.false c.loop-count.invariant.1 c.size-size.ensures c.if-size-room.false))
+  omega arith,
+  omega arith,
+  count-goes _ _ _ _ c.loop-count.invariant.2
+      (turn-fits g.T.Measured.size c.args.items.now c.loop-count.count c.loop-count.room c.size-size.result c.index-items-count.result c.loop-count-test.true c.index-items-count.is c.loop-count.invariant.0 c.if-count-eq-PAGE_ITEMS.false c.loop-count.invariant.1 c.size-size.ensures c.if-size-room.false),
+)
 
 pub returns-clause-exact : goal.returns-clause-exact
 returns-clause-exact g c =
