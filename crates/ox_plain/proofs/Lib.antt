@@ -8,3 +8,4 @@ mod Sound
 mod Kept
 mod Runs
 mod Sequences
+mod Faultless

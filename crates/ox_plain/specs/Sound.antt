@@ -14,7 +14,7 @@ pub record IsSound (s : ShardState) : Type 0 where
   pub counted : All (λ (r : Record). r.meta.modifications < s.next_version) s.records
   pub light : state_weight s ≤ weight_limit
 
--- a put of at most 8 deltas whose index entries can be weighed, and whose key has room for its groups
+-- a put whose index entries can be weighed, and whose key has room for its groups
 abbrev pub is_small : Put → Bool
 is_small p = nat_le (sum_by entry_weight p.indexes) (2 ^ 62) && nat_le (length p.key + 21 * length p.deltas) 4096
 

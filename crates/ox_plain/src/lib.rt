@@ -7,6 +7,7 @@ mod copy;
 mod delete;
 mod index;
 mod keyed;
+mod laws;
 mod numbers;
 mod outcome;
 mod page;
@@ -21,4 +22,5 @@ mod size;
 mod state;
 mod weight;
 
+pub use laws::faultless_commands_fit;
 pub use plain::{Plain, fits};

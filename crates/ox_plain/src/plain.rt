@@ -8,13 +8,16 @@ ghost use Rattle.ox_plain.specs.Sound.{is_small, is_fit};
 use crate::size::weigh_entries;
 use crate::state::State;
 use ox_ops::{Put, ShardAnswer, ShardCommand, ShardQuery, ShardReply};
-use ox_types::NoMemory;
+use ox_types::{KEY_LIMIT, NoMemory};
 use std::alloc::Global;
 use std::marker::Model;
 use std::mem;
 
 /// The most puts of a command.
 const PUTS_LIMIT: usize = 1000;
+
+/// The bytes of a group of a sequence key.
+const GROUP_BYTES: usize = 21;
 
 /// The most that the index entries of a put may weigh: far more than those of a put without a fault.
 const ENTRIES_LIMIT: u64 = 4_611_686_018_427_387_904;
@@ -89,10 +92,10 @@ impl Plain {
 fn is_small_put(put: &Put) -> bool
     ensures { result ≡ is_small put.now }
 {
-    if weigh_entries(put.indexes.as_slice()) > ENTRIES_LIMIT || put.deltas.len() > PUTS_LIMIT {
+    if weigh_entries(put.indexes.as_slice()) > ENTRIES_LIMIT || put.deltas.len() > KEY_LIMIT {
         return false;
     }
-    put.key.bytes().len() + 21 * put.deltas.len() <= 4096
+    put.key.bytes().len() + GROUP_BYTES * put.deltas.len() <= KEY_LIMIT
 }
 
 /// Whether a shard can take the command: it has at most 1,000 puts, each with a key that has room for its groups. Each
