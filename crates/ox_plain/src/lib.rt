@@ -24,3 +24,6 @@ mod weight;
 
 pub use laws::faultless_commands_fit;
 pub use plain::{Plain, fits};
+
+#[cfg(test)]
+mod tests;
