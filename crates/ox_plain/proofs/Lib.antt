@@ -1,0 +1,11 @@
+mod Found
+mod Pairs
+mod Sizes
+mod Pages
+mod Queries
+mod Placed
+mod Sound
+mod Kept
+mod Runs
+mod Sequences
+mod Faultless

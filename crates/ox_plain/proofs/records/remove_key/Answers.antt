@@ -1,0 +1,12 @@
+use Rattle.std.proofs.Common.{◌∙◌, ap, ◌==◌, filter, not, rules}
+use Rattle.std.proofs.lemmas.Fn.{filter_same}
+use Rattle.ox_order.specs.Range.{in_range}
+use Rattle.ox_ops.specs.declared.answer.Record.{Record}
+use Rattle.ox_ops.specs.State.{Session, has_key, is_member}
+use Rattle.ox_plain.proofs.records.remove_key.Goals as goal
+
+pub returns : goal.returns
+returns c =
+    c.from_vec.ensures
+    ∙ filter_same _ (λ (x : Record). not (has_key c.args.key.now x)) _ (λ x b q r. (search rules, search rules)) _ _ c.retain.ensures.filtered
+    ∙ ap (filter (λ (x : Record). not (has_key c.args.key.now x))) c.into_vec-records.ensures
