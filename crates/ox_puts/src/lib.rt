@@ -1,0 +1,4 @@
+//! The records of a shard: puts, deletes and range deletes.
+#![tactic(auto)]
+
+mod record_table;
