@@ -1,4 +1,11 @@
 //! The records of a shard: puts, deletes and range deletes.
 #![tactic(auto)]
 
+mod change;
+mod parts;
 mod record_table;
+mod records;
+mod weight;
+
+pub use change::Change;
+pub use records::Records;

@@ -1,0 +1,123 @@
+ghost use Rattle.std.specs.Prelude.{◌≡◌, ◌↔◌, ◌+◌, ◌-◌, ◌≤◌, ◌<◌, ◌^◌, [], not, filter, sum_by, option_to_list, vec_len, vec_capacity, IsTrue, IfOk, OnOk, OnErr, None, if◌then◌else◌};
+ghost use Rattle.std.specs.Option.{option_copied};
+ghost use Rattle.ox_order.specs.Range.{in_range};
+ghost use Rattle.ox_ops.specs.declared.answer.Record.{Record};
+ghost use Rattle.ox_ops.specs.declared.reply.OpReply.TheVariants as reply;
+ghost use Rattle.ox_ops.specs.State.{ShardState, record_of, with_record, without_key};
+ghost use Rattle.ox_ops.specs.Weight.{entry_weight, record_weight as weight_of_record, weight_limit};
+ghost use Rattle.ox_ops.specs.Operation.{meets as meets_of, put_record, put_at, unless_full, delete_on, range_on};
+ghost use Rattle.ox_ops.specs.Answer.{compared};
+ghost use Rattle.ox_puts.specs.Records.{RecordsState, IsSound, keyed, weight_in, shard_at, replaced_by, deleted_by};
+ghost use Rattle.ox_puts.specs.Changes.{Makes, IsStored};
+
+use crate::change::{Change, refusal};
+use crate::parts::{copy_entries, copy_range, meets, meta_over, put_notice, version_of};
+use crate::record_table::RecordTable;
+use crate::weight::{WEIGHT_LIMIT, record_weight, records_weight, weight_with};
+use ox_ops::{Compare, Delete, KeyRange, Notice, OpReply, Put, Record};
+use ox_table::TableRange;
+use ox_types::{Key, List, NoMemory};
+use std::alloc::Global;
+use std::marker::Model;
+
+/// The records of a shard, with the version of its next stored put and its weight.
+#[derive(Debug, Drop)]
+pub struct Records {
+    alloc: Global,
+    table: RecordTable,
+    next_version: u64,
+    /// What the records weigh.
+    held: u64,
+    /// What was charged and not refunded.
+    other: u64,
+}
+
+impl Model for Records {
+    ghost use Rattle.ox_puts.specs.Records.{RecordsState, IsKept};
+
+    ghost Value = { RecordsState };
+
+    ghost view = { λ r. record { records = r.table; next_version = r.next_version; other = r.other } };
+
+    ghost invariant = { λ r. IsKept (record { records = r.table; next_version = r.next_version; other = r.other }) r.held };
+}
+
+/// The one record, if it is there, in the room that was taken for it.
+fn list_of(mut room: Vec<Record>, old: Option<Record>) -> List<Record>
+    requires empty { room.items ≡ [] }
+    requires enough { vec_len room < vec_capacity room }
+    ensures { result ≡ option_to_list old }
+{
+    if let Some(old) = old {
+        room.push_reserved(old);
+    }
+    List::from_vec(room)
+}
+
+impl Records {
+    pub fn empty(alloc: Global) -> Result<Records, NoMemory>
+        ensures { IfOk result (λ r. r ≡ record { records = []; next_version = 0; other = 0 }) }
+    {
+        Ok(Records {
+            alloc,
+            table: RecordTable::empty(alloc)?,
+            next_version: 0,
+            held: 0,
+            other: 0,
+        })
+    }
+
+    /// The weight of the records and of what was charged.
+    pub fn weight(&self) -> u64
+        ensures weight { result ≡ weight_in self.now }
+        ensures sound { IsSound self.now }
+    {
+        self.held + self.other
+    }
+
+    /// The version of the next stored put.
+    pub fn next_version(&self) -> u64
+        ensures version { result ≡ self.now.next_version }
+        ensures sound { IsSound self.now }
+    {
+        self.next_version
+    }
+
+    /// Adds a weight to what is charged, unless the whole would weigh more than 268,435,456: then it changes nothing, and
+    /// answers false.
+    pub fn charge(&mut self, weight: u64) -> bool
+        ensures answer { IsTrue result ↔ (weight_in self.old + weight ≤ weight_limit) }
+        ensures charged { self.new ≡ (if result then record self.old { other = self.old.other + weight } else self.old) }
+    {
+        if weight > WEIGHT_LIMIT - self.held - self.other {
+            return false;
+        }
+        self.other += weight;
+        true
+    }
+
+    /// Takes a weight back that was charged.
+    pub fn refund(&mut self, weight: u64)
+        requires { weight ≤ self.old.other }
+        ensures { self.new ≡ record self.old { other = self.old.other - weight } }
+    {
+        self.other -= weight;
+    }
+
+    /// The record that the comparison wants, at the cost of a binary search.
+    pub fn get(&self, compare: Compare, key: &Key) -> Option<&Record>
+        ensures found { option_copied result ≡ compared (λ (r : Record). r.key) compare key.now self.now.records }
+        ensures sound { IsSound self.now }
+    {
+        self.table.find(compare, key)
+    }
+
+    /// The records of the range, each behind its key, in the order of keys. It costs two binary searches, and the records
+    /// that are then taken.
+    pub fn scan(&self, range: &KeyRange) -> TableRange<'_, Record>
+        ensures records { result ≡ keyed (filter (λ (r : Record). in_range range.now r.key) self.now.records) }
+        ensures sound { IsSound self.now }
+    {
+        self.table.range(range)
+    }
+}
