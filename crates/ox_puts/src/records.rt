@@ -4,7 +4,7 @@ ghost use Rattle.ox_order.specs.Range.{in_range};
 ghost use Rattle.ox_ops.specs.declared.answer.Record.{Record};
 ghost use Rattle.ox_ops.specs.declared.reply.OpReply.TheVariants as reply;
 ghost use Rattle.ox_ops.specs.State.{ShardState, record_of, with_record, without_key};
-ghost use Rattle.ox_ops.specs.Weight.{entry_weight, record_weight as weight_of_record, weight_limit};
+ghost use Rattle.ox_ops.specs.Weight.{entry_weight, record_weight as weight_of_record, weight_of, weight_limit};
 ghost use Rattle.ox_ops.specs.Operation.{meets as meets_of, put_record, put_at, unless_full, delete_on, range_on};
 ghost use Rattle.ox_ops.specs.Answer.{compared};
 ghost use Rattle.ox_puts.specs.Records.{RecordsState, IsSound, keyed, weight_in, shard_at, replaced_by, deleted_by};
@@ -119,5 +119,95 @@ impl Records {
         ensures sound { IsSound self.now }
     {
         self.table.range(range)
+    }
+
+    /// The record that a put makes under the key, and the weight of the records with it.
+    fn made(&self, put: &Put, key: &Key, time: u64) -> Result<(Record, u64), NoMemory>
+        requires small { sum_by entry_weight put.now.indexes ≤ 268435456 }
+        ensures added { IfOk result (λ m. m.0 ≡ put_record (shard_at time self.now) put.now key.now) }
+        ensures weight { IfOk result (λ m. m.1 ≡ sum_by weight_of_record (with_record m.0 self.now.records)) }
+        ensures modifications { IfOk result (λ m. m.0.meta.modifications ≤ self.now.next_version) }
+        ensures bounded { IfOk result (λ m. m.1 ≤ 2 ^ 32) }
+    {
+        let old = self.table.get(key);
+        let meta = meta_over(self.next_version, time, old);
+        let added = Record {
+            key: key.try_clone()?,
+            value: put.value.try_clone()?,
+            meta,
+            session: put.session,
+            indexes: copy_entries(self.alloc, put.indexes.as_slice())?,
+        };
+        let held = weight_with(self.held, &added, old);
+        Ok((added, held))
+    }
+
+    /// Stores the record, with which the records have this weight.
+    fn store(&mut self, added: Record, held: u64) -> Result<Change, NoMemory>
+        requires next { self.old.next_version < 2 ^ 63 }
+        requires version { added.meta.version ≡ self.old.next_version }
+        requires modifications { added.meta.modifications ≤ self.old.next_version }
+        requires weight { held ≡ sum_by weight_of_record (with_record added self.old.records) }
+        requires light { held + self.old.other ≤ weight_limit }
+        ensures stored { IfOk result (λ change. IsStored added self.old self.new change) }
+        ensures err { OnErr result (self.new ≡ self.old) }
+    {
+        let key = added.key.try_clone()?;
+        let notice = put_notice(self.table.get(&key), &key, added.meta.version)?;
+        let reply = OpReply::Put {
+            key,
+            meta: added.meta,
+        };
+        let room = Vec::with_capacity(self.alloc, 1)?;
+        let old = self.table.insert(added)?;
+        self.next_version += 1;
+        self.held = held;
+        Ok(Change {
+            reply,
+            gone: list_of(room, old),
+            notice: Some(notice),
+        })
+    }
+
+    /// A put whose expectation holds.
+    fn put_unless_full(&mut self, put: &Put, key: &Key, time: u64) -> Result<Change, NoMemory>
+        requires next { self.old.next_version < 2 ^ 63 }
+        requires small { sum_by entry_weight put.now.indexes ≤ 268435456 }
+        ensures made { IfOk result (λ change. Makes (λ s. unless_full s (put_record s put.now key.now) (weight_of (with_record (put_record s put.now key.now) s.records) s.sessions)) time self.old self.new change) }
+        ensures gone { IfOk result (λ change. change.gone ≡ replaced_by change.reply self.old.records) }
+        ensures others { self.new.other ≡ self.old.other }
+        ensures err { OnErr result (self.new ≡ self.old) }
+    {
+        let (added, held) = self.made(put, key, time)?;
+        let weight = held + self.other;
+        if weight > WEIGHT_LIMIT {
+            let reply = OpReply::ShardFull {
+                weight,
+                limit: WEIGHT_LIMIT,
+            };
+            return Ok(refusal(self.alloc, reply));
+        }
+        self.store(added, held)
+    }
+
+    /// A put under its key: the expectation is tested first, and then the weight.
+    fn put_at_key(&mut self, put: &Put, key: &Key, time: u64) -> Result<Change, NoMemory>
+        requires next { self.old.next_version < 2 ^ 63 }
+        requires small { sum_by entry_weight put.now.indexes ≤ 268435456 }
+        ensures made { IfOk result (λ change. Makes (λ s. put_at s put.now key.now) time self.old self.new change) }
+        ensures gone { IfOk result (λ change. change.gone ≡ replaced_by change.reply self.old.records) }
+        ensures others { self.new.other ≡ self.old.other }
+        ensures err { OnErr result (self.new ≡ self.old) }
+    {
+        let old = self.table.get(key);
+        if meets(put.expect, old) {
+            self.put_unless_full(put, key, time)
+        } else {
+            let found = version_of(old);
+            Ok(refusal(
+                self.alloc,
+                OpReply::UnexpectedVersion { found },
+            ))
+        }
     }
 }
