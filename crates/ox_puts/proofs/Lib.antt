@@ -1,3 +1,5 @@
 pub mod Keyed
+pub mod Lawful
+pub mod Operations
 pub mod Puts
 pub mod Weights

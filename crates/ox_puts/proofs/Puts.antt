@@ -1,5 +1,5 @@
 -- The operations on a shard, told by its records.
-use Rattle.std.proofs.Common.{◌≡◌, ◌≤◌, ◌<◌, ◌∙◌, ◌+◌, ◌*◌, ℕ, Bool, true, false, List, [], ◌∷◌, Option, Some, None, All, filter, length, sum_by, refl, sym, ap, subst, arith, inl, inr}
+use Rattle.std.proofs.Common.{◌≡◌, ◌≤◌, ◌<◌, ◌∙◌, ◌+◌, ◌*◌, ◌-◌, ℕ, Bool, true, false, List, [], ◌∷◌, Option, Some, None, All, filter, length, sum_by, refl, sym, ap, subst, arith, inl, inr}
 use Rattle.std.specs.Prelude.{nat_le, not}
 use Rattle.std.specs.Option.{ForSome}
 use Rattle.std.proofs.lemmas.Grind.{common_steps}
@@ -113,3 +113,19 @@ module _ (s : ShardState) (t : RecordsState) (of : IsOf s t) where
         let same : put_record s p key ≡ r = put_record-is ∙ sym e in
         let all : weight_of (with_record r s.records) s.sessions ≡ weight = ap (λ rs. sum_by record_weight (with_record r rs) + 64 * length s.sessions) of.records ∙ ap (λ n. sum_by record_weight (with_record r t.records) + n) of.other ∙ sym w in
         ap (λ (q : Record). unless_full s q (weight_of (with_record q s.records) s.sessions)) same ∙ ap (unless_full s r) all
+
+-- ---- removals
+
+-- the records stay sound where some are removed
+pub kept-fewer : (next other : ℕ) (rs rs' : List Record) (held gone : ℕ) (p : Record → Bool) → IsKept (record { records = rs; next_version = next; other = other }) held
+    → rs' ≡ filter p rs → IsRising (keyed rs') → sum_by record_weight (filter p rs) + gone ≡ sum_by record_weight rs → IsKept (record { records = rs'; next_version = next; other = other }) (held - gone)
+kept-fewer next other rs rs' held gone p h e up w = rw e (fewer (rw e at up))
+  where
+    fewer : IsRising (keyed (filter p rs)) → IsKept (record { records = filter p rs; next_version = next; other = other }) (held - gone)
+    fewer up =
+        let light : sum_by record_weight rs + other ≤ weight_limit = h.sound.light in
+        let all : held ≡ sum_by record_weight rs = h.weight in
+        record {
+          sound = record { rising = up; counted = All-filter p (IsCounted next) rs h.sound.counted; light = omega arith };
+          weight = omega arith;
+        }

@@ -1,7 +1,7 @@
 //! The parts of an operation that look at one record.
 ghost use Rattle.std.specs.Prelude.{◌≡◌, ◌<◌, IfOk};
 ghost use Rattle.std.specs.Option.{option_copied, ForSome};
-ghost use Rattle.ox_ops.specs.Operation.{meets as meets_of, version_of as version_in, meta_over as meta_of, put_notice as notice_of_put};
+ghost use Rattle.ox_ops.specs.Operation.{meets as meets_of, version_of as version_in, meta_over as meta_of, put_notice as notice_of_put, range_notice as notice_of_range};
 
 use ox_ops::{Expect, Hi, IndexEntry, KeyRange, Lo, Meta, Notice, Record};
 use ox_types::{Key, List, NoMemory};
@@ -60,6 +60,17 @@ pub fn put_notice(old: Option<&Record>, key: &Key, version: u64) -> Result<Notic
     match old {
         None => Ok(Notice::Created { key, version }),
         Some(_) => Ok(Notice::Modified { key, version }),
+    }
+}
+
+/// The notice of a range delete that removed so many records.
+pub fn range_notice(range: KeyRange, removed: u64) -> Option<Notice>
+    ensures { result ≡ notice_of_range range removed }
+{
+    if removed == 0 {
+        None
+    } else {
+        Some(Notice::Ranged { range })
     }
 }
 

@@ -5,13 +5,15 @@ ghost use Rattle.ox_ops.specs.declared.answer.Record.{Record};
 ghost use Rattle.ox_ops.specs.declared.reply.OpReply.TheVariants as reply;
 ghost use Rattle.ox_ops.specs.State.{ShardState, record_of, with_record, without_key};
 ghost use Rattle.ox_ops.specs.Weight.{entry_weight, record_weight as weight_of_record, weight_of, weight_limit};
-ghost use Rattle.ox_ops.specs.Operation.{meets as meets_of, put_record, put_at, unless_full, delete_on, range_on};
+ghost use Rattle.ox_ops.specs.Operation.{meets as meets_of, put_record, put_at, put_key, put_on, put_under, unless_full, delete_on, range_on};
+ghost use Rattle.ox_ops.specs.Forms.{put as put_form};
+ghost use Rattle.ox_ops.specs.Check.{put_fault};
 ghost use Rattle.ox_ops.specs.Answer.{compared};
-ghost use Rattle.ox_puts.specs.Records.{RecordsState, IsSound, keyed, weight_in, shard_at, replaced_by, deleted_by};
-ghost use Rattle.ox_puts.specs.Changes.{Makes, IsStored};
+ghost use Rattle.ox_puts.specs.Records.{RecordsState, IsSound, IsOf, IsLive, keyed, weight_in, shard_at, replaced_by, deleted_by};
+ghost use Rattle.ox_puts.specs.Changes.{Makes, MakesAt, IsStored, IsRemoved, IsRanged, effect};
 
 use crate::change::{Change, refusal};
-use crate::parts::{copy_entries, copy_range, meets, meta_over, put_notice, version_of};
+use crate::parts::{copy_entries, copy_range, meets, meta_over, put_notice, range_notice, version_of};
 use crate::record_table::RecordTable;
 use crate::weight::{WEIGHT_LIMIT, record_weight, records_weight, weight_with};
 use ox_ops::{Compare, Delete, KeyRange, Notice, OpReply, Put, Record};
@@ -121,6 +123,133 @@ impl Records {
         self.table.range(range)
     }
 
+    /// A put. Its session, its sequence, its expectation and the weight with it are tested in this order, and a put that is
+    /// refused leaves everything as it was, as one does for which memory runs out. `session_live` says whether its session is
+    /// open, where it names one. It costs a few binary searches, one move of the records behind a new key, and work
+    /// proportional to the record.
+    pub fn put(
+        &mut self,
+        put: &Put,
+        session_live: bool,
+        time: u64,
+    ) -> Result<Change, NoMemory>
+        requires next { self.old.next_version < 2 ^ 63 }
+        requires lawful { IsTrue (put_form.is_lawful put.now) }
+        requires faultless { put_fault put.now ≡ None }
+        requires no_deltas { put.now.deltas ≡ [] }
+        ensures made { IfOk result (λ change. (s : ShardState) → IsOf s self.old → s.time ≡ time → IsLive session_live put.now.session s.sessions → put_on s put.now ≡ effect s self.new change) }
+        ensures gone { IfOk result (λ change. change.gone ≡ replaced_by change.reply self.old.records) }
+        ensures others { self.new.other ≡ self.old.other }
+        ensures err { OnErr result (self.new ≡ self.old) }
+    {
+        match put.session {
+            None => self.put_in_sequence(put, time),
+            Some(session) => {
+                if session_live {
+                    self.put_in_sequence(put, time)
+                } else {
+                    Ok(refusal(
+                        self.alloc,
+                        OpReply::SessionDoesNotExist { session },
+                    ))
+                }
+            }
+        }
+    }
+
+    /// A delete. It is refused where the key has no record, or one that doesn't meet the expectation: then everything stays as
+    /// it was, as where memory runs out. It costs two binary searches and one move of the records behind the key.
+    pub fn delete(&mut self, delete: &Delete) -> Result<Change, NoMemory>
+        ensures made { IfOk result (λ change. Makes (λ s. delete_on s delete.now) self.old self.new change) }
+        ensures gone { IfOk result (λ change. change.gone ≡ deleted_by change.reply delete.now.key self.old.records) }
+        ensures others { self.new.other ≡ self.old.other }
+        ensures err { OnErr result (self.new ≡ self.old) }
+    {
+        match self.table.get(&delete.key) {
+            None => Ok(refusal(self.alloc, OpReply::KeyNotFound)),
+            Some(old) => {
+                if meets(delete.expect, Some(old)) {
+                    self.remove(&delete.key)
+                } else {
+                    let found = Some(old.meta.version);
+                    Ok(refusal(
+                        self.alloc,
+                        OpReply::UnexpectedVersion { found },
+                    ))
+                }
+            }
+        }
+    }
+
+    /// Removes the records of the range. Where memory runs out, everything stays as it was. It costs two binary searches, the
+    /// length of the range and one move of the records behind it.
+    pub fn delete_range(&mut self, range: &KeyRange) -> Result<Change, NoMemory>
+        ensures made { IfOk result (λ change. Makes (λ s. range_on s range.now) self.old self.new change) }
+        ensures gone { IfOk result (λ change. change.gone ≡ filter (λ (r : Record). in_range range.now r.key) self.old.records) }
+        ensures others { self.new.other ≡ self.old.other }
+        ensures err { OnErr result (self.new ≡ self.old) }
+    {
+        self.remove_range(range)
+    }
+
+    fn remove(&mut self, key: &Key) -> Result<Change, NoMemory>
+        ensures removed { IfOk result (λ change. IsRemoved key.now self.old self.new change) }
+        ensures err { OnErr result (self.new ≡ self.old) }
+    {
+        let notice = Notice::Deleted {
+            key: key.try_clone()?,
+        };
+        let room = Vec::with_capacity(self.alloc, 1)?;
+        let old = self.table.remove(key);
+        let gone = list_of(room, old);
+        self.held -= records_weight(gone.as_slice());
+        Ok(Change {
+            reply: OpReply::Deleted,
+            gone,
+            notice: Some(notice),
+        })
+    }
+
+    fn remove_range(&mut self, range: &KeyRange) -> Result<Change, NoMemory>
+        ensures ranged { IfOk result (λ change. IsRanged range.now self.old self.new change) }
+        ensures err { OnErr result (self.new ≡ self.old) }
+    {
+        let copy = copy_range(range)?;
+        let gone = self.table.remove_range(self.alloc, range)?;
+        self.held -= records_weight(gone.as_slice());
+        let removed = gone.len() as u64;
+        Ok(Change {
+            reply: OpReply::Ranged { removed },
+            gone,
+            notice: range_notice(copy, removed),
+        })
+    }
+
+    /// The key that the put goes to, or the first group of its sequence that is spent.
+    fn key_of(&self, put: &Put) -> Result<Result<Key, u32>, NoMemory>
+        requires no_deltas { put.now.deltas ≡ [] }
+        ensures { IfOk result (λ key. key ≡ put_key (shard_at 0 self.now) put.now put.now.deltas) }
+    {
+        Ok(Ok(put.key.try_clone()?))
+    }
+
+    /// A put whose session, if it names one, is open.
+    fn put_in_sequence(&mut self, put: &Put, time: u64) -> Result<Change, NoMemory>
+        requires next { self.old.next_version < 2 ^ 63 }
+        requires lawful { IsTrue (put_form.is_lawful put.now) }
+        requires faultless { put_fault put.now ≡ None }
+        requires no_deltas { put.now.deltas ≡ [] }
+        ensures made { IfOk result (λ change. MakesAt time (λ s. put_under s put.now (put_key s put.now put.now.deltas)) self.old self.new change) }
+        ensures gone { IfOk result (λ change. change.gone ≡ replaced_by change.reply self.old.records) }
+        ensures others { self.new.other ≡ self.old.other }
+        ensures err { OnErr result (self.new ≡ self.old) }
+    {
+        match self.key_of(put)? {
+            Ok(key) => self.put_at_key(put, &key, time),
+            Err(group) => Ok(refusal(self.alloc, OpReply::SequenceSpent { group })),
+        }
+    }
+
     /// The record that a put makes under the key, and the weight of the records with it.
     fn made(&self, put: &Put, key: &Key, time: u64) -> Result<(Record, u64), NoMemory>
         requires small { sum_by entry_weight put.now.indexes ≤ 268435456 }
@@ -173,7 +302,7 @@ impl Records {
     fn put_unless_full(&mut self, put: &Put, key: &Key, time: u64) -> Result<Change, NoMemory>
         requires next { self.old.next_version < 2 ^ 63 }
         requires small { sum_by entry_weight put.now.indexes ≤ 268435456 }
-        ensures made { IfOk result (λ change. Makes (λ s. unless_full s (put_record s put.now key.now) (weight_of (with_record (put_record s put.now key.now) s.records) s.sessions)) time self.old self.new change) }
+        ensures made { IfOk result (λ change. MakesAt time (λ s. unless_full s (put_record s put.now key.now) (weight_of (with_record (put_record s put.now key.now) s.records) s.sessions)) self.old self.new change) }
         ensures gone { IfOk result (λ change. change.gone ≡ replaced_by change.reply self.old.records) }
         ensures others { self.new.other ≡ self.old.other }
         ensures err { OnErr result (self.new ≡ self.old) }
@@ -194,7 +323,7 @@ impl Records {
     fn put_at_key(&mut self, put: &Put, key: &Key, time: u64) -> Result<Change, NoMemory>
         requires next { self.old.next_version < 2 ^ 63 }
         requires small { sum_by entry_weight put.now.indexes ≤ 268435456 }
-        ensures made { IfOk result (λ change. Makes (λ s. put_at s put.now key.now) time self.old self.new change) }
+        ensures made { IfOk result (λ change. MakesAt time (λ s. put_at s put.now key.now) self.old self.new change) }
         ensures gone { IfOk result (λ change. change.gone ≡ replaced_by change.reply self.old.records) }
         ensures others { self.new.other ≡ self.old.other }
         ensures err { OnErr result (self.new ≡ self.old) }
