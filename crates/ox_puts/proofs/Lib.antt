@@ -1,3 +1,5 @@
+pub mod Digits
+pub mod Groups
 pub mod Keyed
 pub mod Lawful
 pub mod Operations

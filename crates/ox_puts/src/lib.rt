@@ -2,6 +2,7 @@
 #![tactic(auto)]
 
 mod change;
+mod laws;
 mod parts;
 mod record_table;
 mod records;
