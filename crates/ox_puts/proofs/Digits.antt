@@ -37,8 +37,8 @@ equal_is a b h = grind (arith, nat_tests)
 pub greater_is : (a b : ℕ) → b < a → nat_cmp a b ≡ Greater
 greater_is a b h = grind (arith, nat_tests)
 
-digit_is : (c : ℕ) → is_ascii_digit c ≡ true → (digit_value c + 48 ≡ c) × (c < 58)
-digit_is c h = grind (arith, nat_tests)
+pub digit-is : (c : ℕ) → is_ascii_digit c ≡ true → (digit_value c + 48 ≡ c) × (c < 58)
+digit-is c h = grind (arith, nat_tests)
 
 is_digit_from : (c : ℕ) → digit_value c < 10 → is_ascii_digit c ≡ true
 is_digit_from c h = grind (arith, nat_tests)
@@ -72,8 +72,8 @@ value_order n m (x ∷ xs) [] p q l = absurd (omega arith)
 value_order n m (x ∷ xs) (y ∷ ys) p q l =
     let a = both (is_ascii_digit x) (list_all is_ascii_digit xs) p in
     let b = both (is_ascii_digit y) (list_all is_ascii_digit ys) q in
-    let c = digit_is x a.0 in
-    let d = digit_is y b.0 in
+    let c = digit-is x a.0 in
+    let d = digit-is y b.0 in
     value_order (n * 10 + digit_value x) (m * 10 + digit_value y) xs ys a.1 b.1 (omega arith)
     ∙ ap (λ r. ordering_then r (slice_cmp nat_cmp xs ys)) (step_at n m (digit_value x) (digit_value y) x y c.0 d.0 c.1 d.1)
     ∙ then_assoc (nat_cmp n m) (nat_cmp x y) (slice_cmp nat_cmp xs ys)

@@ -137,7 +137,7 @@ sequence-cmp prefix ms ns f g l =
 
 -- ---- what groups say
 
-after_prefix-is : (prefix key rest : List ℕ) → after_prefix prefix key ≡ Some rest → key ≡ prefix ++ rest
+pub after_prefix-is : (prefix key rest : List ℕ) → after_prefix prefix key ≡ Some rest → key ≡ prefix ++ rest
 after_prefix-is [] key rest h = some_list key rest h
 after_prefix-is (p ∷ prefix) [] rest h = cc h
 after_prefix-is (p ∷ prefix) (b ∷ key) rest h = elim (cases_Bool (p == b)) [

@@ -84,3 +84,13 @@ light-put p h f =
     let light = entries_light p.indexes entries.1 in
     let few = few_indexes p f in
     omega arith
+
+-- the deltas are few, and the key of their groups is short
+pub few-deltas : (p : Put) → put_fault p ≡ None → (length p.deltas ≤ 8) × (begins_with_0 p.deltas ≡ false) × (length p.key + 21 * length p.deltas ≤ 4096)
+few-deltas p h =
+    let last = neither _ _ h in
+    let indexes = neither _ _ last.0 in
+    let long = neither _ _ indexes.0 in
+    let any = neither _ _ long.0 in
+    let first = neither _ _ any.0 in
+    (lt_false 8 (length p.deltas) (no_fault _ _ first.0), no_fault _ _ first.1, lt_false 4096 (length p.key + 21 * length p.deltas) (no_fault _ _ long.1))

@@ -13,6 +13,7 @@ ghost use Rattle.ox_puts.specs.Records.{RecordsState, IsSound, IsOf, IsLive, key
 ghost use Rattle.ox_puts.specs.Changes.{Makes, MakesAt, IsStored, IsRemoved, IsRanged, effect};
 
 use crate::change::{Change, refusal};
+use crate::next_key::next_key;
 use crate::parts::{copy_entries, copy_range, meets, meta_over, put_notice, range_notice, version_of};
 use crate::record_table::RecordTable;
 use crate::weight::{WEIGHT_LIMIT, record_weight, records_weight, weight_with};
@@ -136,7 +137,6 @@ impl Records {
         requires next { self.old.next_version < 2 ^ 63 }
         requires lawful { IsTrue (put_form.is_lawful put.now) }
         requires faultless { put_fault put.now ≡ None }
-        requires no_deltas { put.now.deltas ≡ [] }
         ensures made { IfOk result (λ change. (s : ShardState) → IsOf s self.old → s.time ≡ time → IsLive session_live put.now.session s.sessions → put_on s put.now ≡ effect s self.new change) }
         ensures gone { IfOk result (λ change. change.gone ≡ replaced_by change.reply self.old.records) }
         ensures others { self.new.other ≡ self.old.other }
@@ -227,10 +227,13 @@ impl Records {
 
     /// The key that the put goes to, or the first group of its sequence that is spent.
     fn key_of(&self, put: &Put) -> Result<Result<Key, u32>, NoMemory>
-        requires no_deltas { put.now.deltas ≡ [] }
+        requires faultless { put_fault put.now ≡ None }
         ensures { IfOk result (λ key. key ≡ put_key (shard_at 0 self.now) put.now put.now.deltas) }
     {
-        Ok(Ok(put.key.try_clone()?))
+        if put.deltas.is_empty() {
+            return Ok(Ok(put.key.try_clone()?));
+        }
+        next_key(self.alloc, &self.table, &put.key, put.deltas.as_slice())
     }
 
     /// A put whose session, if it names one, is open.
@@ -238,7 +241,6 @@ impl Records {
         requires next { self.old.next_version < 2 ^ 63 }
         requires lawful { IsTrue (put_form.is_lawful put.now) }
         requires faultless { put_fault put.now ≡ None }
-        requires no_deltas { put.now.deltas ≡ [] }
         ensures made { IfOk result (λ change. MakesAt time (λ s. put_under s put.now (put_key s put.now put.now.deltas)) self.old self.new change) }
         ensures gone { IfOk result (λ change. change.gone ≡ replaced_by change.reply self.old.records) }
         ensures others { self.new.other ≡ self.old.other }
