@@ -220,7 +220,7 @@ no_dash (c ∷ needle) (p ∷ prefix) rest q h =
       | inr other ↦ rw other refl
     ]
 
-key_free : (bytes : List ℕ) → 0 < length bytes → length bytes ≤ 4096 → starts_with nat_eq bytes reserved ≡ false → key_fault bytes ≡ None
+pub key_free : (bytes : List ℕ) → 0 < length bytes → length bytes ≤ 4096 → starts_with nat_eq bytes reserved ≡ false → key_fault bytes ≡ None
 key_free bytes a b h =
     let some : (length bytes == 0) ≡ false = grind (arith, nat_tests) in
     let short : nat_lt 4096 (length bytes) ≡ false = grind (arith, nat_tests) in

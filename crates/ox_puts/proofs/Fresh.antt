@@ -151,7 +151,7 @@ never rs prefix deltas d key r p h e =
     let count : length numbers ≡ k = raised-length last (d ∷ deltas) ∙ long in
     let there = found_there key rs r e in
     let says : numbers_of prefix k r.key ≡ Some numbers =
-        ap (numbers_of prefix k) (there.1 ∙ sym made.1) ∙ ap (λ n. numbers_of prefix n (sequence_key prefix numbers)) (sym count) ∙ numbers_of-key prefix numbers fit in
+    ap (numbers_of prefix k) (there.1 ∙ sym made.1) ∙ ap (λ n. numbers_of prefix n (sequence_key prefix numbers)) (sym count) ∙ numbers_of-key prefix numbers fit in
     let up : le numbers last = fold_above (found_in prefix k rs) (replicate k 0) numbers (in_found prefix k rs r numbers there.0 says) in
     raised_past last deltas d p (omega arith) up
 

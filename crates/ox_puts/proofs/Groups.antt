@@ -48,7 +48,7 @@ groups-cmp [] (m ∷ ms) a b f g l = absurd (omega arith)
 groups-cmp (n ∷ ns) [] a b f g l = absurd (omega arith)
 groups-cmp (n ∷ ns) (m ∷ ms) a b f g l =
     let front : slice_cmp nat_cmp ((group_text n ++ groups ns) ++ a) ((group_text m ++ groups ms) ++ b) ≡ slice_cmp nat_cmp (group_text n ++ (groups ns ++ a)) (group_text m ++ (groups ms ++ b)) =
-        ap (λ x. slice_cmp nat_cmp x ((group_text m ++ groups ms) ++ b)) (append_assoc (group_text n) (groups ns) a) ∙ ap (slice_cmp nat_cmp (group_text n ++ (groups ns ++ a))) (append_assoc (group_text m) (groups ms) b) in
+    ap (λ x. slice_cmp nat_cmp x ((group_text m ++ groups ms) ++ b)) (append_assoc (group_text n) (groups ns) a) ∙ ap (slice_cmp nat_cmp (group_text n ++ (groups ns ++ a))) (append_assoc (group_text m) (groups ms) b) in
     front
     ∙ group-cmp n m (groups ns ++ a) (groups ms ++ b) f.0 g.0
     ∙ ap (ordering_then (nat_cmp n m)) (groups-cmp ns ms a b f.1 g.1 (omega arith))

@@ -11,7 +11,11 @@ use ox_types::{Key, List, NoMemory};
 use std::alloc::Global;
 
 /// Each number raised by its delta, or the first group, from 0, whose sum is above 2^64 - 1.
-fn raised(alloc: Global, numbers: &[u64], deltas: &[u64]) -> Result<Result<List<u64>, u32>, NoMemory>
+fn raised(
+    alloc: Global,
+    numbers: &[u64],
+    deltas: &[u64],
+) -> Result<Result<List<u64>, u32>, NoMemory>
     requires same { length numbers.now ≡ length deltas.now }
     requires few { length deltas.now ≤ 8 }
     ensures { IfOk result (λ sums. sums ≡ numbers_or_group (raised_by numbers.now deltas.now) (spent_from 0 (raised_by numbers.now deltas.now))) }

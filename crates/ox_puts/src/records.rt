@@ -14,7 +14,9 @@ ghost use Rattle.ox_puts.specs.Changes.{Makes, MakesAt, IsStored, IsRemoved, IsR
 
 use crate::change::{Change, refusal};
 use crate::next_key::next_key;
-use crate::parts::{copy_entries, copy_range, meets, meta_over, put_notice, range_notice, version_of};
+use crate::parts::{
+    copy_entries, copy_range, meets, meta_over, put_notice, range_notice, version_of,
+};
 use crate::record_table::RecordTable;
 use crate::weight::{WEIGHT_LIMIT, record_weight, records_weight, weight_with};
 use ox_ops::{Compare, Delete, KeyRange, Notice, OpReply, Put, Record};
@@ -128,18 +130,14 @@ impl Records {
     /// refused leaves everything as it was, as one does for which memory runs out. `session_live` says whether its session is
     /// open, where it names one. It costs a few binary searches, one move of the records behind a new key, and work
     /// proportional to the record.
-    pub fn put(
-        &mut self,
-        put: &Put,
-        session_live: bool,
-        time: u64,
-    ) -> Result<Change, NoMemory>
+    pub fn put(&mut self, put: &Put, session_live: bool, time: u64) -> Result<Change, NoMemory>
         requires next { self.old.next_version < 2 ^ 63 }
         requires lawful { IsTrue (put_form.is_lawful put.now) }
         requires faultless { put_fault put.now ≡ None }
         ensures made { IfOk result (λ change. (s : ShardState) → IsOf s self.old → s.time ≡ time → IsLive session_live put.now.session s.sessions → put_on s put.now ≡ effect s self.new change) }
         ensures gone { IfOk result (λ change. change.gone ≡ replaced_by change.reply self.old.records) }
         ensures others { self.new.other ≡ self.old.other }
+        ensures versions { self.new.next_version ≤ self.old.next_version + 1 }
         ensures err { OnErr result (self.new ≡ self.old) }
     {
         match put.session {
@@ -148,10 +146,7 @@ impl Records {
                 if session_live {
                     self.put_in_sequence(put, time)
                 } else {
-                    Ok(refusal(
-                        self.alloc,
-                        OpReply::SessionDoesNotExist { session },
-                    ))
+                    Ok(refusal(self.alloc, OpReply::SessionDoesNotExist { session }))
                 }
             }
         }
@@ -163,6 +158,7 @@ impl Records {
         ensures made { IfOk result (λ change. Makes (λ s. delete_on s delete.now) self.old self.new change) }
         ensures gone { IfOk result (λ change. change.gone ≡ deleted_by change.reply delete.now.key self.old.records) }
         ensures others { self.new.other ≡ self.old.other }
+        ensures versions { self.new.next_version ≡ self.old.next_version }
         ensures err { OnErr result (self.new ≡ self.old) }
     {
         match self.table.get(&delete.key) {
@@ -172,10 +168,7 @@ impl Records {
                     self.remove(&delete.key)
                 } else {
                     let found = Some(old.meta.version);
-                    Ok(refusal(
-                        self.alloc,
-                        OpReply::UnexpectedVersion { found },
-                    ))
+                    Ok(refusal(self.alloc, OpReply::UnexpectedVersion { found }))
                 }
             }
         }
@@ -187,6 +180,7 @@ impl Records {
         ensures made { IfOk result (λ change. Makes (λ s. range_on s range.now) self.old self.new change) }
         ensures gone { IfOk result (λ change. change.gone ≡ filter (λ (r : Record). in_range range.now r.key) self.old.records) }
         ensures others { self.new.other ≡ self.old.other }
+        ensures versions { self.new.next_version ≡ self.old.next_version }
         ensures err { OnErr result (self.new ≡ self.old) }
     {
         self.remove_range(range)
@@ -244,6 +238,7 @@ impl Records {
         ensures made { IfOk result (λ change. MakesAt time (λ s. put_under s put.now (put_key s put.now put.now.deltas)) self.old self.new change) }
         ensures gone { IfOk result (λ change. change.gone ≡ replaced_by change.reply self.old.records) }
         ensures others { self.new.other ≡ self.old.other }
+        ensures versions { self.new.next_version ≤ self.old.next_version + 1 }
         ensures err { OnErr result (self.new ≡ self.old) }
     {
         match self.key_of(put)? {
@@ -307,6 +302,7 @@ impl Records {
         ensures made { IfOk result (λ change. MakesAt time (λ s. unless_full s (put_record s put.now key.now) (weight_of (with_record (put_record s put.now key.now) s.records) s.sessions)) self.old self.new change) }
         ensures gone { IfOk result (λ change. change.gone ≡ replaced_by change.reply self.old.records) }
         ensures others { self.new.other ≡ self.old.other }
+        ensures versions { self.new.next_version ≤ self.old.next_version + 1 }
         ensures err { OnErr result (self.new ≡ self.old) }
     {
         let (added, held) = self.made(put, key, time)?;
@@ -328,6 +324,7 @@ impl Records {
         ensures made { IfOk result (λ change. MakesAt time (λ s. put_at s put.now key.now) self.old self.new change) }
         ensures gone { IfOk result (λ change. change.gone ≡ replaced_by change.reply self.old.records) }
         ensures others { self.new.other ≡ self.old.other }
+        ensures versions { self.new.next_version ≤ self.old.next_version + 1 }
         ensures err { OnErr result (self.new ≡ self.old) }
     {
         let old = self.table.get(key);
@@ -335,10 +332,7 @@ impl Records {
             self.put_unless_full(put, key, time)
         } else {
             let found = version_of(old);
-            Ok(refusal(
-                self.alloc,
-                OpReply::UnexpectedVersion { found },
-            ))
+            Ok(refusal(self.alloc, OpReply::UnexpectedVersion { found }))
         }
     }
 }

@@ -15,7 +15,7 @@ pub returns-then-meets-clause-made : goal.returns-then-meets-clause-made
 returns-then-meets-clause-made c =
     IfOk-weaker c.remove.result _ _
     (λ change made s of. removed-is s _ of c.args.delete.now c.in-Some.old.now _ change
-        (c.in-Some.ensures.found ∙ ap (λ (t : RecordsState). record_of c.args.delete.now.key t.records) c.self.view_is) (sym c.meets.ensures ∙ c.if-meets.true) made)
+    (c.in-Some.ensures.found ∙ ap (λ (t : RecordsState). record_of c.args.delete.now.key t.records) c.self.view_is) (sym c.meets.ensures ∙ c.if-meets.true) made)
     c.remove.ensures.removed
 
 pub returns-else-meets-clause-made : goal.returns-else-meets-clause-made
