@@ -1,0 +1,13 @@
+pub mod Bytes
+pub mod Digits
+pub mod Fresh
+pub mod Greatest
+pub mod Groups
+pub mod Keyed
+pub mod Lawful
+pub mod Looks
+pub mod Operations
+pub mod Plain
+pub mod Puts
+pub mod Raised
+pub mod Weights

@@ -1,0 +1,52 @@
+-- Each case of a delete, of a range delete and of a put's session, told by the records.
+use Rattle.std.proofs.Common.{◌≡◌, ◌∙◌, ℕ, Bool, true, false, Option, Some, None, length, filter, refl, sym, ap}
+use Rattle.ox_order.specs.Range.{in_range}
+use Rattle.ox_order.specs.declared.range.KeyRange.{KeyRange}
+use Rattle.ox_ops.specs.declared.write.Put.{Put}
+use Rattle.ox_ops.specs.declared.write.Delete.{Delete}
+use Rattle.ox_ops.specs.declared.reply.OpReply.TheVariants as reply
+use Rattle.ox_ops.specs.declared.answer.Record.{Record}
+use Rattle.ox_ops.specs.State.{ShardState, record_of, is_open}
+use Rattle.ox_ops.specs.Operation.{Effect, meets, delete_on, delete_found, range_on, put_on, put_in_session, put_under, put_key}
+use Rattle.ox_puts.specs.declared.change.Change.{Change}
+use Rattle.ox_puts.specs.Records.{RecordsState, IsOf, IsLive}
+use Rattle.ox_puts.specs.Changes.{effect, refusal_of, IsRemoved, IsRanged}
+use Rattle.ox_puts.proofs.Puts.{refused-is}
+
+module _ (s : ShardState) (t : RecordsState) (of : IsOf s t) where
+  found-is : (d : Delete) (old : Option Record) → old ≡ record_of d.key t.records → delete_on s d ≡ delete_found s d old
+  unfolding delete_on
+  found-is d old e = ap (λ rs. delete_found s d (record_of d.key rs)) of.records ∙ ap (delete_found s d) (sym e)
+
+  pub absent-is : (d : Delete) → None ≡ record_of d.key t.records → delete_on s d ≡ effect s t (refusal_of reply.KeyNotFound)
+  absent-is d e = found-is d None e ∙ refused-is s t of reply.KeyNotFound
+
+  pub mismatch-is : (d : Delete) (old : Record) → Some old ≡ record_of d.key t.records → meets d.expect (Some old) ≡ false → delete_on s d ≡ effect s t (refusal_of (reply.UnexpectedVersion (Some old.meta.version)))
+  mismatch-is d old e fails = found-is d (Some old) e ∙ rw fails (refused-is s t of (reply.UnexpectedVersion (Some old.meta.version)))
+
+  pub removed-is : (d : Delete) (old : Record) (after : RecordsState) (change : Change) → Some old ≡ record_of d.key t.records → meets d.expect (Some old) ≡ true → IsRemoved d.key t after change → delete_on s d ≡ effect s after change
+  removed-is d old after change e holds made =
+      found-is d (Some old) e ∙ rw holds (rw (of.records, made.then, made.reply, made.notice, ← of.next_version) refl)
+
+  pub ranged-is : (range : KeyRange) (after : RecordsState) (change : Change) → IsRanged range t after change → range_on s range ≡ effect s after change
+  unfolding range_on
+  ranged-is range after change made = rw (of.records, made.then, made.reply, made.notice, ← of.next_version) refl
+
+-- ---- the session of a put
+
+module _ (s : ShardState) (p : Put) where
+  pub no_session-is : p.session ≡ None → put_on s p ≡ put_under s p (put_key s p p.deltas)
+  unfolding put_on
+  no_session-is e = ap (put_in_session s p) e
+
+  pub open_session-is : (id : ℕ) → p.session ≡ Some id → is_open id s.sessions ≡ true → put_on s p ≡ put_under s p (put_key s p p.deltas)
+  unfolding put_on
+  open_session-is id e open' = ap (put_in_session s p) e ∙ rw open' refl
+
+  pub closed_session-is : (t : RecordsState) → IsOf s t → (id : ℕ) → p.session ≡ Some id → is_open id s.sessions ≡ false → put_on s p ≡ effect s t (refusal_of (reply.SessionDoesNotExist id))
+  unfolding put_on
+  closed_session-is t of id e closed = ap (put_in_session s p) e ∙ rw closed (refused-is s t of (reply.SessionDoesNotExist id))
+
+-- what is known of a session that is named
+pub live-is : (s : ShardState) (live : Bool) (session : Option ℕ) (id : ℕ) → session ≡ Some id → IsLive live session s.sessions → is_open id s.sessions ≡ live
+live-is s live session id e h = sym (rw e at h)
