@@ -1,8 +1,11 @@
 // What a read answers.
+ghost use Rattle.std.specs.Prelude.{◌≡◌, IfOk};
+
 use crate::notice::NoticeItem;
 use crate::reply::Meta;
-use crate::write::IndexEntry;
-use ox_types::{Key, List, Value};
+use crate::write::{IndexEntry, copy_entries};
+use ox_types::{Key, List, NoMemory, Value};
+use std::alloc::Global;
 
 #[derive(Debug, Drop)]
 pub struct Record {
@@ -11,6 +14,24 @@ pub struct Record {
     pub meta: Meta,
     pub session: Option<u64>,
     pub indexes: List<IndexEntry>,
+}
+
+impl Record {
+    /// A copy, at the cost of its bytes.
+    pub fn try_clone(&self, alloc: Global) -> Result<Record, NoMemory>
+        ensures { IfOk result (λ copy. copy ≡ self.now) }
+    {
+        let key = self.key.try_clone()?;
+        let value = self.value.try_clone()?;
+        let indexes = copy_entries(alloc, self.indexes.as_slice())?;
+        Ok(Record {
+            key,
+            value,
+            meta: self.meta,
+            session: self.session,
+            indexes,
+        })
+    }
 }
 
 /// An answer. A page has `more` where an item was left out behind it.

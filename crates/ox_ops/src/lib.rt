@@ -21,7 +21,7 @@ pub use ox_types::{Bad, MachineFault, Part, Rule};
 pub use query::{Compare, ShardQuery};
 pub use reply::{Meta, OpReply, ShardReply};
 pub use rules::check;
-pub use write::{Delete, Expect, IndexEntry, Put, ShardCommand, WriteBatch};
+pub use write::{Delete, Expect, IndexEntry, Put, ShardCommand, WriteBatch, copy_entries};
 
 #[cfg(test)]
 mod tests;

@@ -1,6 +1,8 @@
 // What a command changed, for those who follow.
+ghost use Rattle.std.specs.Prelude.{◌≡◌, IfOk};
+
 use ox_order::KeyRange;
-use ox_types::{Key, List};
+use ox_types::{Key, List, NoMemory};
 
 #[derive(Debug, Drop)]
 pub enum Notice {
@@ -9,6 +11,30 @@ pub enum Notice {
     Deleted { key: Key },
     /// Records were removed in this range, as it was asked.
     Ranged { range: KeyRange },
+}
+
+impl Notice {
+    /// A copy on the same allocator, at the cost of its keys.
+    pub fn try_clone(&self) -> Result<Notice, NoMemory>
+        ensures { IfOk result (λ copy. copy ≡ self.now) }
+    {
+        match self {
+            Notice::Created { key, version } => Ok(Notice::Created {
+                key: key.try_clone()?,
+                version: *version,
+            }),
+            Notice::Modified { key, version } => Ok(Notice::Modified {
+                key: key.try_clone()?,
+                version: *version,
+            }),
+            Notice::Deleted { key } => Ok(Notice::Deleted {
+                key: key.try_clone()?,
+            }),
+            Notice::Ranged { range } => Ok(Notice::Ranged {
+                range: range.try_clone()?,
+            }),
+        }
+    }
 }
 
 /// A notice, and the offset of the entry that left it.

@@ -1,6 +1,9 @@
 // What a client may change.
+ghost use Rattle.std.specs.Prelude.{◌≡◌, IfOk};
+
 use ox_order::KeyRange;
-use ox_types::{Key, List, Octets, Value};
+use ox_types::{Key, List, NoMemory, Octets, Value};
+use std::alloc::Global;
 
 /// What a record must be for a put or a delete to go on.
 #[derive(Clone, Copy, Debug, PartialEq, Eq)]
@@ -18,6 +21,28 @@ pub enum Expect {
 pub struct IndexEntry {
     pub name: Octets,
     pub key: Key,
+}
+
+impl IndexEntry {
+    /// A copy on the same allocator, at the cost of its bytes.
+    pub fn try_clone(&self) -> Result<IndexEntry, NoMemory>
+        ensures { IfOk result (λ copy. copy ≡ self.now) }
+    {
+        let name = self.name.try_clone()?;
+        let key = self.key.try_clone()?;
+        Ok(IndexEntry { name, key })
+    }
+}
+
+/// A copy of index entries, at the cost of their bytes.
+pub fn copy_entries(alloc: Global, entries: &[IndexEntry]) -> Result<List<IndexEntry>, NoMemory>
+    ensures { IfOk result (λ copy. copy ≡ entries.now) }
+{
+    let mut copy = List::new(alloc);
+    for entry in entries {
+        copy.push(entry.try_clone()?)?;
+    }
+    Ok(copy)
 }
 
 /// A record to be stored. With deltas, its key is the prefix of a sequence key, which the store makes.

@@ -1,6 +1,6 @@
-ghost use Rattle.std.specs.Prelude.{◌≡◌};
+ghost use Rattle.std.specs.Prelude.{◌≡◌, IfOk};
 
-use ox_types::Key;
+use ox_types::{Key, NoMemory};
 
 /// The low end of a range.
 #[derive(Debug, PartialEq, Eq, Drop)]
@@ -38,6 +38,15 @@ impl KeyRange {
     {
         self.lo.holds(key) && self.hi.holds(key)
     }
+
+    /// A copy on the same allocator, at the cost of its keys.
+    pub fn try_clone(&self) -> Result<KeyRange, NoMemory>
+        ensures { IfOk result (λ copy. copy ≡ self.now) }
+    {
+        let lo = self.lo.try_clone()?;
+        let hi = self.hi.try_clone()?;
+        Ok(KeyRange { lo, hi })
+    }
 }
 
 impl Lo {
@@ -53,6 +62,16 @@ impl Lo {
             Lo::Past(low) => low < key,
         }
     }
+
+    fn try_clone(&self) -> Result<Lo, NoMemory>
+        ensures { IfOk result (λ copy. copy ≡ self.now) }
+    {
+        match self {
+            Lo::Start => Ok(Lo::Start),
+            Lo::At(low) => Ok(Lo::At(low.try_clone()?)),
+            Lo::Past(low) => Ok(Lo::Past(low.try_clone()?)),
+        }
+    }
 }
 
 impl Hi {
@@ -65,6 +84,15 @@ impl Hi {
         match self {
             Hi::End => true,
             Hi::Before(high) => key < high,
+        }
+    }
+
+    fn try_clone(&self) -> Result<Hi, NoMemory>
+        ensures { IfOk result (λ copy. copy ≡ self.now) }
+    {
+        match self {
+            Hi::End => Ok(Hi::End),
+            Hi::Before(high) => Ok(Hi::Before(high.try_clone()?)),
         }
     }
 }

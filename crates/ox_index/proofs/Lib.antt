@@ -1,0 +1,6 @@
+mod Cuts
+mod Edits
+mod Found
+mod Keys
+mod Orders
+mod Ranges
