@@ -1,2 +1,3 @@
 pub mod Field
 pub mod Reply
+pub mod Answer
