@@ -1,5 +1,5 @@
 // Answers: records, notices, and pages of them.
-ghost use Rattle.std.specs.Prelude.{◌≡◌, ◌++◌, OnOk, codes};
+ghost use Rattle.std.specs.Prelude.{◌≡◌, ◌++◌, OnOk, OnErr, codes};
 ghost use Rattle.std.specs.List.{flat_map};
 ghost use Rattle.ox_schedule.specs.Line.{behind_space};
 ghost use Rattle.ox_schedule.specs.Spelling.{spelt, value_word};
@@ -43,7 +43,7 @@ fn add_session(text: &mut Octets, session: Option<u64>) -> Result<(), NoMemory>
 }
 
 fn add_pair(alloc: Global, text: &mut Octets, key: &Key, value: &Value) -> Result<(), NoMemory>
-    ensures { OnOk result (text.new ≡ text.old ++ spelt key.now ++ codes " " ++ value_word value.now) }
+    ensures { OnOk result (text.new ≡ text.old ++ (spelt key.now ++ codes " " ++ value_word value.now)) }
 {
     add_key(alloc, text, key)?;
     text.extend(b" ")?;
@@ -60,7 +60,7 @@ fn add_record(alloc: Global, text: &mut Octets, found: &Record) -> Result<(), No
 }
 
 fn add_found(alloc: Global, text: &mut Octets, found: &Record) -> Result<(), NoMemory>
-    ensures { OnOk result (text.new ≡ text.old ++ codes "record " ++ record_text found.now) }
+    ensures { OnOk result (text.new ≡ text.old ++ (codes "record " ++ record_text found.now)) }
 {
     text.extend(b"record ")?;
     add_record(alloc, text, found)
@@ -76,7 +76,7 @@ fn add_change(
     key: &Key,
     version: u64,
 ) -> Result<(), NoMemory>
-    ensures { OnOk result (text.new ≡ text.old ++ word.now ++ spelt key.now ++ field version) }
+    ensures { OnOk result (text.new ≡ text.old ++ (word.now ++ spelt key.now ++ field version)) }
 {
     text.extend(word)?;
     add_key(alloc, text, key)?;
@@ -161,10 +161,7 @@ fn add_notice_items(alloc: Global, text: &mut Octets, items: &[NoticeItem]) -> R
 
 // ---- answers
 
-/// Adds the text of the answer to a query, as the line of a read has it behind the prefix. It costs the text, and takes
-/// memory for the spelling of each key, name and value too. Where memory runs out, the text may have a part of it behind
-/// what it had.
-pub fn add_answer(alloc: Global, text: &mut Octets, answer: &ShardAnswer) -> Result<(), NoMemory>
+fn write_answer(alloc: Global, text: &mut Octets, answer: &ShardAnswer) -> Result<(), NoMemory>
     ensures { OnOk result (text.new ≡ text.old ++ answer_text answer.now) }
 {
     match answer {
@@ -188,4 +185,15 @@ pub fn add_answer(alloc: Global, text: &mut Octets, answer: &ShardAnswer) -> Res
         ShardAnswer::Alive => text.extend(b"alive"),
         ShardAnswer::SessionDoesNotExist { session } => add_count(text, b"no-session", *session),
     }
+}
+
+/// Adds the text of the answer to a query, as the line of a read has it behind the prefix. It costs the text, which is
+/// made in memory of its own first. Where memory runs out, nothing is added.
+pub fn add_answer(alloc: Global, text: &mut Octets, answer: &ShardAnswer) -> Result<(), NoMemory>
+    ensures ok { OnOk result (text.new ≡ text.old ++ answer_text answer.now) }
+    ensures err { OnErr result (text.new ≡ text.old) }
+{
+    let mut line = Octets::new(alloc);
+    write_answer(alloc, &mut line, answer)?;
+    text.extend(line.as_slice())
 }

@@ -16,7 +16,7 @@ pub fn add_field(text: &mut Octets, number: u64) -> Result<(), NoMemory>
 
 /// A word and a number.
 pub fn add_count(text: &mut Octets, word: &[u8], number: u64) -> Result<(), NoMemory>
-    ensures { OnOk result (text.new ≡ text.old ++ word.now ++ field number) }
+    ensures { OnOk result (text.new ≡ text.old ++ (word.now ++ field number)) }
 {
     text.extend(word)?;
     add_field(text, number)
@@ -24,7 +24,7 @@ pub fn add_count(text: &mut Octets, word: &[u8], number: u64) -> Result<(), NoMe
 
 /// A word and two numbers.
 pub fn add_counts(text: &mut Octets, word: &[u8], first: u64, second: u64) -> Result<(), NoMemory>
-    ensures { OnOk result (text.new ≡ text.old ++ word.now ++ field first ++ field second) }
+    ensures { OnOk result (text.new ≡ text.old ++ (word.now ++ field first ++ field second)) }
 {
     text.extend(word)?;
     add_field(text, first)?;

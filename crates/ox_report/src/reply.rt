@@ -1,5 +1,5 @@
 // The replies to a command.
-ghost use Rattle.std.specs.Prelude.{◌≡◌, ◌++◌, OnOk, codes};
+ghost use Rattle.std.specs.Prelude.{◌≡◌, ◌++◌, OnOk, OnErr, codes};
 ghost use Rattle.std.specs.List.{flat_map};
 ghost use Rattle.ox_schedule.specs.Spelling.{spelt};
 ghost use Rattle.ox_report.specs.Field.{field_or, meta_fields};
@@ -12,7 +12,7 @@ use ox_types::{Key, NoMemory, Octets};
 use std::alloc::Global;
 
 fn add_stored(alloc: Global, text: &mut Octets, key: &Key, meta: Meta) -> Result<(), NoMemory>
-    ensures { OnOk result (text.new ≡ text.old ++ codes "put " ++ spelt key.now ++ meta_fields meta) }
+    ensures { OnOk result (text.new ≡ text.old ++ (codes "put " ++ spelt key.now ++ meta_fields meta)) }
 {
     text.extend(b"put ")?;
     add_key(alloc, text, key)?;
@@ -21,7 +21,7 @@ fn add_stored(alloc: Global, text: &mut Octets, key: &Key, meta: Meta) -> Result
 
 /// The version that was found, or `none`.
 fn add_version(text: &mut Octets, found: Option<u64>) -> Result<(), NoMemory>
-    ensures { OnOk result (text.new ≡ text.old ++ codes "version" ++ field_or (codes "none") found) }
+    ensures { OnOk result (text.new ≡ text.old ++ (codes "version" ++ field_or (codes "none") found)) }
 {
     match found {
         Some(version) => {
@@ -32,9 +32,7 @@ fn add_version(text: &mut Octets, found: Option<u64>) -> Result<(), NoMemory>
     }
 }
 
-/// Adds the text of the reply to one operation. It costs the text, and takes memory for the spelling of a key too.
-/// Where memory runs out, the text may have a part of it behind what it had.
-pub fn add_reply(alloc: Global, text: &mut Octets, reply: &OpReply) -> Result<(), NoMemory>
+fn write_reply(alloc: Global, text: &mut Octets, reply: &OpReply) -> Result<(), NoMemory>
     ensures { OnOk result (text.new ≡ text.old ++ reply_text reply.now) }
 {
     match reply {
@@ -52,26 +50,46 @@ pub fn add_reply(alloc: Global, text: &mut Octets, reply: &OpReply) -> Result<()
 }
 
 /// The replies, each behind `; `.
-fn add_others(alloc: Global, text: &mut Octets, replies: &[OpReply]) -> Result<(), NoMemory>
+fn write_others(alloc: Global, text: &mut Octets, replies: &[OpReply]) -> Result<(), NoMemory>
     ensures { OnOk result (text.new ≡ text.old ++ flat_map (λ r. codes "; " ++ reply_text r) replies.now) }
 {
     for reply in replies {
         text.extend(b"; ")?;
-        add_reply(alloc, text, reply)?;
+        write_reply(alloc, text, reply)?;
     }
     Ok(())
 }
 
-/// Adds the replies to a command, with `; ` between two, as the line of an acknowledgement has them. It costs the text.
-/// Where memory runs out, the text may have a part of it behind what it had.
-pub fn add_replies(alloc: Global, text: &mut Octets, reply: &ShardReply) -> Result<(), NoMemory>
+fn write_replies(alloc: Global, text: &mut Octets, reply: &ShardReply) -> Result<(), NoMemory>
     ensures { OnOk result (text.new ≡ text.old ++ replies_text reply.now) }
 {
     match reply.ops.as_slice() {
         [] => Ok(()),
         [first, others @ ..] => {
-            add_reply(alloc, text, first)?;
-            add_others(alloc, text, others)
+            write_reply(alloc, text, first)?;
+            write_others(alloc, text, others)
         }
     }
+}
+
+/// Adds the text of the reply to one operation. It costs the text, which is made in memory of its own first. Where
+/// memory runs out, nothing is added.
+pub fn add_reply(alloc: Global, text: &mut Octets, reply: &OpReply) -> Result<(), NoMemory>
+    ensures ok { OnOk result (text.new ≡ text.old ++ reply_text reply.now) }
+    ensures err { OnErr result (text.new ≡ text.old) }
+{
+    let mut line = Octets::new(alloc);
+    write_reply(alloc, &mut line, reply)?;
+    text.extend(line.as_slice())
+}
+
+/// Adds the replies to a command, with `; ` between two, as the line of an acknowledgement has them. It costs the text,
+/// which is made in memory of its own first. Where memory runs out, nothing is added.
+pub fn add_replies(alloc: Global, text: &mut Octets, reply: &ShardReply) -> Result<(), NoMemory>
+    ensures ok { OnOk result (text.new ≡ text.old ++ replies_text reply.now) }
+    ensures err { OnErr result (text.new ≡ text.old) }
+{
+    let mut line = Octets::new(alloc);
+    write_replies(alloc, &mut line, reply)?;
+    text.extend(line.as_slice())
 }
