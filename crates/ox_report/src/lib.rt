@@ -9,3 +9,6 @@ mod reply;
 pub use answer::add_answer;
 pub use refusal::add_refusal;
 pub use reply::{add_replies, add_reply};
+
+#[cfg(test)]
+mod tests;
