@@ -1,5 +1,5 @@
 -- The text of the answer to a query.
-use Rattle.std.specs.Prelude.{ℕ, Bool, true, false, List, ◌∷◌, ◌++◌, length, Option, Some, None, codes}
+use Rattle.std.specs.Prelude.{ℕ, Bool, true, false, List, ◌++◌, length, Some, None, codes}
 use Rattle.std.specs.List.{flat_map}
 use Rattle.ox_ops.specs.declared.answer.Record.{Record}
 use Rattle.ox_ops.specs.declared.answer.ShardAnswer.{ShardAnswer}

@@ -1,5 +1,5 @@
 -- The text of a refusal.
-use Rattle.std.specs.Prelude.{ℕ, List, ◌∷◌, ◌++◌, codes}
+use Rattle.std.specs.Prelude.{ℕ, List, ◌++◌, codes}
 use Rattle.ox_types.specs.declared.bad.Part.{Part}
 use Rattle.ox_types.specs.declared.bad.Part.TheVariants as part
 use Rattle.ox_types.specs.declared.bad.Rule.{Rule}

@@ -138,6 +138,9 @@ fn answers_of_notices(rt: HostRuntime) -> Result<(), Fail> {
         key: key(alloc, b"a")?,
         version: 0,
     };
+    let deleted = Notice::Deleted {
+        key: key(alloc, b"e2")?,
+    };
     let ranged = Notice::Ranged {
         range: KeyRange {
             lo: Lo::Past(key(alloc, b"a")?),
@@ -150,7 +153,11 @@ fn answers_of_notices(rt: HostRuntime) -> Result<(), Fail> {
             notice: created
         },
         NoticeItem {
-            offset: 2,
+            offset: 5,
+            notice: deleted
+        },
+        NoticeItem {
+            offset: 6,
             notice: ranged
         },
     ]?;
@@ -158,7 +165,7 @@ fn answers_of_notices(rt: HostRuntime) -> Result<(), Fail> {
     let page = told(alloc, &ShardAnswer::Notices { items, more: false })?;
     assert_eq!(rt;
         page.as_slice(),
-        b"notices 2 all | 1 created a 0 | 2 ranged >a *".as_slice()
+        b"notices 3 all | 1 created a 0 | 5 deleted e2 | 6 ranged >a *".as_slice()
     );
     let gone = told(alloc, &ShardAnswer::NotRetained { asked: 0, low: 1 })?;
     assert_eq!(rt; gone.as_slice(), b"not-retained 0 1".as_slice());
