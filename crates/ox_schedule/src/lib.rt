@@ -18,7 +18,7 @@ pub use law::{
 };
 pub use reading::read_schedule;
 pub use schedule::{Event, First, Grouping, Places, Request, Schedule};
-pub use writer::{add_event, add_key, add_value};
+pub use writer::{add_bytes, add_event, add_key, add_range, add_value};
 
 #[cfg(test)]
 mod tests;

@@ -49,7 +49,8 @@ fn keys_and_values_are_spelt(rt: HostRuntime) -> Result<(), Fail> {
     let mut text = Octets::new(rt.alloc());
     add_key(rt.alloc(), &mut text, &key)?;
     add_value(rt.alloc(), &mut text, &value)?;
-    assert_eq!(rt; text.as_slice(), b"a%20b%7E/%25*".as_slice());
+    add_bytes(rt.alloc(), &mut text, b":b")?;
+    assert_eq!(rt; text.as_slice(), b"a%20b%7E/%25*%3Ab".as_slice());
     Ok(())
 }
 

@@ -20,14 +20,23 @@ fn add_number(text: &mut Octets, number: u64) -> Result<(), NoMemory>
     text.extend(Buffer::new().format(number).as_bytes())
 }
 
+/// Adds the spelling of bytes, as of the name of an index. It costs their number, and takes memory for the spelling too.
+/// Where memory runs out, nothing is added.
+pub fn add_bytes(alloc: Global, text: &mut Octets, bytes: &[u8]) -> Result<(), NoMemory>
+    ensures ok { OnOk result (text.new ≡ text.old ++ spelt bytes.now) }
+    ensures err { OnErr result (text.new ≡ text.old) }
+{
+    let word = spelling(alloc, bytes)?;
+    text.extend(word.as_bytes())
+}
+
 /// Adds the spelling of a key, as it stands in a line. It costs its bytes, and takes memory for its text too.
 /// Where memory runs out, nothing is added.
 pub fn add_key(alloc: Global, text: &mut Octets, key: &Key) -> Result<(), NoMemory>
     ensures ok { OnOk result (text.new ≡ text.old ++ spelt key.now) }
     ensures err { OnErr result (text.new ≡ text.old) }
 {
-    let word = spelling(alloc, key.bytes())?;
-    text.extend(word.as_bytes())
+    add_bytes(alloc, text, key.bytes())
 }
 
 /// Adds the spelling of a value, `*` for the empty one, at the same cost as that of a key. Where memory runs out,
@@ -85,7 +94,9 @@ fn add_hi(alloc: Global, text: &mut Octets, hi: &Hi) -> Result<(), NoMemory>
     }
 }
 
-fn add_range(alloc: Global, text: &mut Octets, range: &KeyRange) -> Result<(), NoMemory>
+/// Adds both ends of a range, each behind a space, at the cost of its keys. Where memory runs out, the text may have a
+/// part of them behind what it had.
+pub fn add_range(alloc: Global, text: &mut Octets, range: &KeyRange) -> Result<(), NoMemory>
     ensures { OnOk result (text.new ≡ text.old ++ spaced (range_words range.now)) }
 {
     add_lo(alloc, text, &range.lo)?;

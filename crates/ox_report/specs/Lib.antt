@@ -1,0 +1,4 @@
+pub mod Field
+pub mod Reply
+pub mod Answer
+pub mod Refusal
