@@ -1,0 +1,55 @@
+use super::*;
+use ox_types::NodeId;
+use std::alloc::Global;
+use std::test::Fail;
+
+fn nodes(alloc: Global, ids: &[u32]) -> Result<Vec<NodeId>, Fail> {
+    let mut nodes = Vec::new(alloc);
+    for id in ids {
+        nodes.push(NodeId(*id))?;
+    }
+    Ok(nodes)
+}
+
+fn ensemble(alloc: Global, ids: &[u32]) -> Result<Ensemble, Fail> {
+    Ok(Ensemble::try_new(nodes(alloc, ids)?)?)
+}
+
+fn fault_of(alloc: Global, ids: &[u32]) -> Result<Option<EnsembleFault>, Fail> {
+    Ok(Ensemble::try_new(nodes(alloc, ids)?).err())
+}
+
+#[test]
+fn an_ensemble_is_brought_into_order(rt: HostRuntime) -> Result<(), Fail> {
+    let three = ensemble(rt.alloc(), &[5, 0, 3])?;
+    let copy = three.try_clone()?;
+    assert_eq!(rt; copy.nodes(), [NodeId(0), NodeId(3), NodeId(5)].as_slice());
+    assert!(rt; copy.holds(NodeId(3)));
+    assert!(rt; !copy.holds(NodeId(4)));
+    Ok(())
+}
+
+#[test]
+fn each_fault_has_its_cause(rt: HostRuntime) -> Result<(), Fail> {
+    let none = fault_of(rt.alloc(), &[])?;
+    let eight = fault_of(rt.alloc(), &[1, 2, 3, 4, 5, 6, 7, 1])?;
+    let twice = fault_of(rt.alloc(), &[9, 2, 3, 2, 9])?;
+    assert_eq!(rt; none, Some(EnsembleFault::Size { len: 0 }));
+    assert_eq!(rt; eight, Some(EnsembleFault::Size { len: 8 }));
+    assert_eq!(rt; twice, Some(EnsembleFault::Repeated { node: NodeId(2) }));
+    Ok(())
+}
+
+#[test]
+fn a_joint_config_wants_both_majorities(rt: HostRuntime) -> Result<(), Fail> {
+    let a = ensemble(rt.alloc(), &[0, 1, 2])?;
+    let b = ensemble(rt.alloc(), &[1, 2, 3])?;
+    let joint = Config::Joint(a, b);
+    assert!(rt; meets(&joint, &[NodeId(1), NodeId(2)]));
+    assert!(rt; !meets(&joint, &[NodeId(0), NodeId(1), NodeId(1), NodeId(0)]));
+    let after = next_config(&joint, true)?;
+    assert!(rt; meets(&after, &[NodeId(2), NodeId(3)]));
+    let same = next_config(&joint, false)?;
+    assert!(rt; !meets(&same, &[NodeId(2), NodeId(3)]));
+    Ok(())
+}
