@@ -1,3 +1,4 @@
 -- Lemmas of this crate.
 mod Again
+mod Nodes
 mod Quorums

@@ -1,3 +1,5 @@
 -- Definitions that the contracts of this crate cite.
 pub mod Ensemble
+pub mod Forms
+pub mod FormLaws
 pub mod Quorum

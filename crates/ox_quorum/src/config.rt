@@ -1,4 +1,4 @@
-// Configs and the sets of nodes that meet them (docs/REPLICATION.md).
+// Configs and the sets of nodes that meet them.
 ghost use Rattle.std.specs.Prelude.{◌≡◌, ◌≤◌, ◌↔◌, IfOk, IsTrue, count_by};
 ghost use Rattle.ox_quorum.specs.Ensemble.{has};
 ghost use Rattle.ox_quorum.specs.Quorum.{MeetsConfig, meets_config, has_majority as has_majority_of, config_after, Follows};

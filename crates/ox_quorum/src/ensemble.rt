@@ -1,4 +1,4 @@
-// Ensembles (docs/REPLICATION.md).
+// Ensembles.
 ghost use Rattle.std.specs.Prelude.{◌≡◌, [], None, Some, MatchResult, IfOk, IsPermutation};
 ghost use Rattle.ox_quorum.specs.Ensemble.{has, first_again, ensemble_fault};
 
@@ -75,6 +75,14 @@ impl Ensemble {
         }
         nodes.sort_unstable_by_key(|n| n.0);
         Ok(Ensemble { nodes })
+    }
+
+    /// The ensemble of nodes that are known to be one.
+    pub(crate) fn of(nodes: Vec<NodeId>) -> Ensemble
+        requires { IsEnsemble nodes.items }
+        ensures { result ≡ nodes.items }
+    {
+        Ensemble { nodes }
     }
 
     /// Whether the node is one of the ensemble's.

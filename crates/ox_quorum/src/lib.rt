@@ -1,6 +1,7 @@
 //! Ensembles of nodes, the configs that they make, and which sets of nodes decide.
 #![tactic(auto)]
 
+mod bytes;
 mod config;
 mod ensemble;
 

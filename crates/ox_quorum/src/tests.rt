@@ -1,4 +1,5 @@
 use super::*;
+use ox_bytes::{BadField, FieldFault, WireRule, decode, encode};
 use ox_types::NodeId;
 use std::alloc::Global;
 use std::test::Fail;
@@ -52,4 +53,47 @@ fn a_joint_config_wants_both_majorities(rt: HostRuntime) -> Result<(), Fail> {
     let same = next_config(&joint, false)?;
     assert!(rt; !meets(&same, &[NodeId(2), NodeId(3)]));
     Ok(())
+}
+
+/// Whether the bytes are read as a config, and written again.
+fn is_again(alloc: Global, bytes: &[u8]) -> Result<bool, Fail> {
+    let config: Config = decode(alloc, bytes)?;
+    let text = encode(alloc, &config)?;
+    Ok(text.as_slice() == bytes)
+}
+
+fn bad(alloc: Global, bytes: &[u8]) -> Option<FieldFault> {
+    decode::<Config>(alloc, bytes).err()
+}
+
+fn fault(left: usize, rule: WireRule) -> Option<FieldFault> {
+    Some(FieldFault::Bad(BadField { left, rule }))
+}
+
+#[test]
+fn configs_are_read_as_they_are_written(rt: HostRuntime) -> Result<(), Fail> {
+    assert!(rt; is_again(rt.alloc(), &[0, 0, 0, 0, 2, 0, 0, 0, 0, 0, 0, 1, 2])?);
+    assert!(rt;
+        is_again(
+            rt.alloc(),
+            &[1, 0, 0, 0, 1, 0, 0, 0, 5, 0, 0, 0, 1, 0, 0, 0, 4]
+        )?
+    );
+    Ok(())
+}
+
+#[test]
+fn a_config_is_refused_at_its_first_fault(rt: HostRuntime) {
+    assert_eq!(rt; bad(rt.alloc(), &[2, 0]), fault(2, WireRule::Tag));
+    assert_eq!(rt;
+        bad(rt.alloc(), &[0, 0, 0, 0, 0]),
+        fault(4, WireRule::Range)
+    );
+    assert_eq!(rt;
+        bad(rt.alloc(), &[0, 0, 0, 0, 8]),
+        fault(4, WireRule::Range)
+    );
+    let equal = [0, 0, 0, 0, 2, 0, 0, 0, 5, 0, 0, 0, 5];
+    assert_eq!(rt; bad(rt.alloc(), &equal), fault(4, WireRule::Order));
+    assert_eq!(rt; bad(rt.alloc(), &equal[..12]), fault(3, WireRule::Short));
 }
