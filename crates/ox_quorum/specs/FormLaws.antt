@@ -1,19 +1,14 @@
 -- The forms of ensembles and configs are exact, and what is read as an ensemble is one.
-use Rattle.std.proofs.Common.{◌≡◌, ℕ, zero, suc, ◌+◌, ◌<◌, ◌≤◌, nat_le, ◌&&◌, Bool, true, false, List, [], ◌∷◌, length, slice_index, Option, Some, Result, Ok, Err, refl, sym, ap, subst, ◌∙◌, arith}
-use Rattle.std.specs.List.Sorted.{IsStrictlyIncreasing}
-use Rattle.std.proofs.lemmas.Bool.{and_parts, and_from}
+use Rattle.std.proofs.Common.{◌≡◌, ℕ, List, Some, refl, sym, ap}
 use Rattle.ox_bytes.specs.declared.fault.WireRule.TheVariants.{Range, Order}
-use Rattle.ox_bytes.specs.declared.fault.BadField.{BadField}
 use Rattle.ox_bytes.specs.Form.{IsExact, pair}
 use Rattle.ox_bytes.specs.FormLaws.{checked_exact, pair_exact, is_variant}
 use Rattle.ox_bytes.specs.Fields.{number32}
 use Rattle.ox_bytes.specs.FieldLaws.{choice_exact}
-use Rattle.ox_bytes.specs.Lists.{course_at, list_by_at, is_course}
 use Rattle.ox_bytes.specs.ListLaws.{list_by_exact}
 use Rattle.ox_bytes.specs.NumberLaws.{number32_exact}
 use Rattle.ox_quorum.specs.declared.config.Config.{Config}
 use Rattle.ox_quorum.specs.declared.config.Config.TheVariants.{One, Joint}
-use Rattle.ox_quorum.specs.Ensemble.{IsEnsemble}
 use Rattle.ox_quorum.specs.Forms.{ensemble_size, node_from, nodes_course, ensemble, config_tag, config_one, config_joint, config}
 
 pub ensemble_size_exact : IsExact ensemble_size

@@ -1,4 +1,3 @@
-use Rattle.std.proofs.Common.{◌≡◌, sym, ◌∙◌}
 use Rattle.std.proofs.lemmas.Result.{err_from_is_err_and}
 use Rattle.ox_bytes.specs.ListLaws.{course_goes_on, course_fails, course_is_done}
 use Rattle.ox_quorum.specs.Forms.{nodes_course, ensemble}

@@ -1,4 +1,3 @@
-use Rattle.std.proofs.Common.{◌≡◌}
 use Rattle.ox_bytes.specs.ListLaws.{IsSoFar}
 use Rattle.ox_quorum.specs.Forms.{nodes_course, ensemble}
 use Rattle.ox_quorum.proofs.bytes.take_nodes.Given as goal
