@@ -1,10 +1,11 @@
 -- The first of some nodes that is one of those before it, by places, and what is known where there is none.
-use Rattle.std.proofs.Common.{◌≡◌, ℕ, ◌+◌, ◌<◌, ◌≤◌, Bool, true, false, List, [], ◌∷◌, ◌++◌, length, get_or, take, drop, Some, None, if◌then◌else◌, refl, sym, ap, subst, ◌∙◌, append_assoc, arith, nat_eq, nat_lt, ◌==◌}
+use Rattle.std.proofs.Common.{◌≡◌, ℕ, ◌+◌, ◌<◌, ◌≤◌, Bool, true, false, List, [], ◌∷◌, ◌++◌, length, get_or, take, drop, Some, None, if◌then◌else◌, refl, sym, ap, subst, ◌∙◌, append_assoc, arith, nat_eq, nat_lt, ◌==◌, ◌^◌, inl, inr, All}
 use Rattle.std.specs.List.{IsDistinct}
 use Rattle.std.specs.List.Sorted.{IsPermutation, IsNonDecreasing}
 use Rattle.std.proofs.lemmas.Cmp.{nat_eq_equiv}
-use Rattle.std.proofs.lemmas.List.{take_more, drop_more, drop_all, append-nil}
-use Rattle.std.proofs.lemmas.List.Sorted.{length_permutation}
+use Rattle.std.proofs.lemmas.Bool.{cases_lt}
+use Rattle.std.proofs.lemmas.List.{take_more, drop_more, drop_all, append-nil, get_or_default}
+use Rattle.std.proofs.lemmas.List.Sorted.{length_permutation, All-permutation}
 use Rattle.std.proofs.lemmas.Map.Keys.{IsDistinct-push, IsDistinct-IsPermutation, IsStrictlyIncreasing-from_distinct}
 use Rattle.ox_quorum.specs.Ensemble.{has, first_again, ensemble_fault, IsEnsemble}
 
@@ -41,12 +42,12 @@ distinct seen (n ∷ nodes) apart none =
     (split seen n nodes none (λ fresh later. distinct (seen ++ n ∷ []) nodes (IsDistinct-push nat_eq_equiv seen n apart fresh) later))
 
 -- 1 to 7 nodes of which none stands again are an ensemble, once they don't fall
-ensemble_made : (nodes sorted : List ℕ) → 0 < length nodes → length nodes ≤ 7 → first_again [] nodes ≡ None → IsPermutation nodes sorted → IsNonDecreasing sorted → IsEnsemble sorted
+ensemble_made : (nodes sorted : List ℕ) → 0 < length nodes → length nodes ≤ 7 → first_again [] nodes ≡ None → All (λ n. n < 2 ^ 32) nodes → IsPermutation nodes sorted → IsNonDecreasing sorted → IsEnsemble sorted
 unfolding IsDistinct
-ensemble_made nodes sorted some few none moved rising =
+ensemble_made nodes sorted some few none small moved rising =
     let len = length_permutation nodes sorted moved in
     let apart = IsDistinct-IsPermutation nat_eq nat_eq_equiv.symm nodes sorted moved (distinct [] nodes tt none) in
-    record { some = omega (arith, len, some); few = omega (arith, len, few); rising = IsStrictlyIncreasing-from_distinct sorted rising apart }
+    record { some = omega (arith, len, some); few = omega (arith, len, few); rising = IsStrictlyIncreasing-from_distinct sorted rising apart; ids = All-permutation (λ n. n < 2 ^ 32) nodes sorted moved small }
 
 -- they break no rule
 no_fault : (nodes : List ℕ) → 0 < length nodes → length nodes ≤ 7 → first_again [] nodes ≡ None → ensemble_fault nodes ≡ None
@@ -56,5 +57,15 @@ no_fault nodes some few none =
     rw (whole, short, none) refl
 
 -- what is told of an ensemble that is made
-pub ensemble_told : (nodes sorted : List ℕ) → 0 < length nodes → length nodes ≤ 7 → first_again [] nodes ≡ None → IsPermutation nodes sorted → IsNonDecreasing sorted → IsEnsemble sorted × IsPermutation nodes sorted × ensemble_fault nodes ≡ None
-ensemble_told nodes sorted some few none moved rising = (ensemble_made nodes sorted some few none moved rising, moved, no_fault nodes some few none)
+pub ensemble_told : (nodes sorted : List ℕ) → 0 < length nodes → length nodes ≤ 7 → first_again [] nodes ≡ None → All (λ n. n < 2 ^ 32) nodes → IsPermutation nodes sorted → IsNonDecreasing sorted → IsEnsemble sorted × IsPermutation nodes sorted × ensemble_fault nodes ≡ None
+ensemble_told nodes sorted some few none small moved rising = (ensemble_made nodes sorted some few none small moved rising, moved, no_fault nodes some few none)
+
+-- one more id that has 32 bits
+pub small_more : (nodes : List ℕ) (i n : ℕ) → i < length nodes → n ≡ get_or nodes i n → n < 2 ^ 32 → ((k d : ℕ) → k < i → get_or nodes k d < 2 ^ 32) → (k d : ℕ) → k < i + 1 → get_or nodes k d < 2 ^ 32
+small_more nodes i n lt at small before k d h = elim (cases_lt k i) [
+  | inl earlier ↦ before k d earlier
+  | inr later ↦
+      let here : k ≡ i = omega arith in
+      let same : get_or nodes k d ≡ n = ap (λ (j : ℕ). get_or nodes j d) here ∙ get_or_default nodes i d n lt ∙ sym at in
+      omega (arith, same, small)
+]

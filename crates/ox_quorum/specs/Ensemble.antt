@@ -1,5 +1,5 @@
 -- Which nodes are an ensemble, and else the first rule that they break.
-use Rattle.std.specs.Prelude.{ℕ, ◌<◌, ◌≤◌, ◌==◌, ◌||◌, nat_lt, Bool, List, [], ◌∷◌, ◌++◌, length, Option, Some, None, if◌then◌else◌}
+use Rattle.std.specs.Prelude.{ℕ, ◌<◌, ◌≤◌, ◌^◌, ◌==◌, All, ◌||◌, nat_lt, Bool, List, [], ◌∷◌, ◌++◌, length, Option, Some, None, if◌then◌else◌}
 use Rattle.std.specs.List.{list_any}
 use Rattle.std.specs.List.Sorted.{IsStrictlyIncreasing}
 use Rattle.std.specs.Option.{option_map}
@@ -10,11 +10,12 @@ use Rattle.ox_quorum.specs.declared.ensemble.EnsembleFault.TheVariants.{Size, Re
 abbrev pub has : List ℕ → ℕ → Bool
 has nodes node = list_any (λ n. node == n) nodes
 
--- 1 to 7 nodes, by rising id
+-- 1 to 7 nodes, by rising id; an id has 32 bits
 pub record IsEnsemble (nodes : List ℕ) : Type 0 where
   pub some : 0 < length nodes
   pub few : length nodes ≤ 7
   pub rising : IsStrictlyIncreasing nodes
+  pub ids : All (λ n. n < 2 ^ 32) nodes
 
 -- the first of the nodes that is one of those before it, where those of `seen` stand before them all
 abbrev pub first_again : List ℕ → List ℕ → Option ℕ

@@ -1,5 +1,5 @@
 // The bytes of ensembles and configs (docs/FORMATS.md).
-ghost use Rattle.std.specs.Prelude.{◌≡◌, ◌≤◌, ◌+◌, ◌++◌, length, OnOk, IfOk};
+ghost use Rattle.std.specs.Prelude.{◌≡◌, ◌<◌, ◌+◌, ◌^◌, ◌++◌, OnOk, IfOk};
 ghost use Rattle.ox_bytes.specs.Reading.{Gives};
 ghost use Rattle.ox_quorum.specs.Ensemble.{IsEnsemble};
 ghost use Rattle.ox_quorum.specs.Forms.{ensemble_size, node_from, ensemble as ensemble_form};
@@ -25,7 +25,8 @@ fn take_size(from: &mut Reader<'_>) -> Result<u32, FieldFault>
 /// A node whose id is at least this one, or else out of order.
 #[tactic(auto, unfolding(crate::specs::Forms::node_from))]
 fn take_node(from: &mut Reader<'_>, least: u64) -> Result<NodeId, FieldFault>
-    ensures { Gives result from.new ((node_from least).at from.old) }
+    ensures small { IfOk result (λ node. node < 2 ^ 32) }
+    ensures read { Gives result from.new ((node_from least).at from.old) }
 {
     let order = from.bad(WireRule::Order);
     let id = from.take_u32()?;

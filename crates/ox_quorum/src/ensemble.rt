@@ -1,5 +1,5 @@
 // Ensembles.
-ghost use Rattle.std.specs.Prelude.{◌≡◌, [], None, Some, MatchResult, IfOk, IsPermutation};
+ghost use Rattle.std.specs.Prelude.{◌≡◌, ◌<◌, ◌^◌, All, [], None, Some, IfNone, MatchResult, IfOk, IsPermutation};
 ghost use Rattle.ox_quorum.specs.Ensemble.{has, first_again, ensemble_fault};
 
 use ox_types::{NoMemory, NodeId};
@@ -45,13 +45,23 @@ pub(crate) fn is_among(nodes: &[NodeId], node: NodeId) -> bool
     nodes.iter().any(|n| node.0 == n.0)
 }
 
-/// The first node that is one of those before it.
+/// The number of a node, which has 32 bits.
+fn id_of(node: NodeId) -> u32
+    ensures same { result ≡ node }
+    ensures small { result < 2 ^ 32 }
+{
+    node.0
+}
+
+/// The first node that is one of those before it; where there is none, each id is seen to have 32 bits.
 fn first_repeated(nodes: &[NodeId]) -> Option<NodeId>
-    ensures { result ≡ first_again [] nodes.now }
+    ensures first { result ≡ first_again [] nodes.now }
+    ensures ids { IfNone result (All (λ n. n < 2 ^ 32) nodes.now) }
 {
     for (i, node) in nodes.iter().enumerate() {
-        if is_among(&nodes[..i], *node) {
-            return Some(*node);
+        let id = id_of(*node);
+        if is_among(&nodes[..i], NodeId(id)) {
+            return Some(NodeId(id));
         }
     }
     None

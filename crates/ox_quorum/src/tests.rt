@@ -1,6 +1,9 @@
+ghost use Rattle.std.specs.Prelude.{◌<◌, length, IfOk, IsTrue};
+ghost use Rattle.ox_bytes.specs.LogForms.{term_table};
+
 use super::*;
-use ox_bytes::{BadField, FieldFault, WireRule, decode, encode};
-use ox_types::NodeId;
+use ox_bytes::{BadField, FieldFault, WireRule, Writer, decode, encode};
+use ox_types::{NodeId, TermTable};
 use std::alloc::Global;
 use std::test::Fail;
 
@@ -96,4 +99,36 @@ fn a_config_is_refused_at_its_first_fault(rt: HostRuntime) {
     let equal = [0, 0, 0, 0, 2, 0, 0, 0, 5, 0, 0, 0, 5];
     assert_eq!(rt; bad(rt.alloc(), &equal), fault(4, WireRule::Order));
     assert_eq!(rt; bad(rt.alloc(), &equal[..12]), fault(3, WireRule::Short));
+}
+
+/// The table with this base and these runs: pairs of a term and a count or a last offset.
+fn table(alloc: Global, base: (u64, u64), runs: &[(u64, u64)]) -> Result<TermTable, Fail>
+    requires { length runs.now < 10 }
+    ensures { IfOk result (λ table. IsTrue (term_table.is_lawful table)) }
+{
+    let mut writer = Writer::empty(alloc);
+    writer.put_u64(base.0)?;
+    writer.put_u64(base.1)?;
+    writer.put_u32(runs.len() as u32)?;
+    for run in runs {
+        writer.put_u64(run.0)?;
+        writer.put_u64(run.1)?;
+    }
+    Ok(decode(alloc, writer.finish().as_slice())?)
+}
+
+#[test]
+fn tables_meet_at_their_last_common_term(rt: HostRuntime) -> Result<(), Fail> {
+    let leader = table(rt.alloc(), (0, 0), &[(1, 2), (2, 4)])?;
+    let follower = table(rt.alloc(), (0, 0), &[(1, 1), (3, 3)])?;
+    let longer = table(rt.alloc(), (0, 0), &[(1, 2), (2, 8)])?;
+    let based = table(rt.alloc(), (1, 3), &[(4, 3)])?;
+    let apart = table(rt.alloc(), (3, 4), &[])?;
+    let empty = table(rt.alloc(), (0, 0), &[])?;
+    assert_eq!(rt; common_point(&leader, &follower), Some(2));
+    assert_eq!(rt; common_point(&leader, &longer), Some(5));
+    assert_eq!(rt; common_point(&leader, &based), Some(3));
+    assert_eq!(rt; common_point(&leader, &apart), None);
+    assert_eq!(rt; common_point(&leader, &empty), Some(0));
+    Ok(())
 }

@@ -1,12 +1,13 @@
-use Rattle.std.proofs.Common.{sym, ◌∙◌}
-use Rattle.ox_quorum.proofs.Again.{again_later, again_here, again_nowhere}
+use Rattle.std.proofs.Common.{◌≡◌, false, sym, ap, ◌∙◌, arith}
+use Rattle.std.proofs.Common.{take}
+use Rattle.ox_quorum.specs.Ensemble.{has}
+use Rattle.ox_quorum.proofs.Again.{again_later, small_more}
 use Rattle.ox_quorum.proofs.ensemble.first_repeated.Goals as goal
 
-pub returns : goal.returns
-returns c = sym (c.loop-i.invariant ∙ again_nowhere _ _ c.loop-i-test.false)
-
 pub loop-i-preserved : goal.loop-i-preserved
-loop-i-preserved c = c.loop-i.invariant ∙ again_later c.args.nodes.now c.loop-i.i c.index-nodes-i.result c.loop-i-test.true c.index-nodes-i.is (sym c.is_among.ensures ∙ c.if-is_among.false)
-
-pub returns-then-is_among : goal.returns-then-is_among
-returns-then-is_among c = sym (c.loop-i.invariant ∙ again_here c.args.nodes.now c.loop-i.i c.index-nodes-i.result c.loop-i-test.true c.index-nodes-i.is (sym c.is_among.ensures ∙ c.if-is_among.true))
+loop-i-preserved c =
+    let id = c.id_of-id.ensures in
+    let new : has (take c.loop-i.i c.args.nodes.now) c.index-nodes-i.result ≡ false = ap (has (take c.loop-i.i c.args.nodes.now)) (sym id.same) ∙ sym c.is_among.ensures ∙ c.if-is_among.false in (
+      c.loop-i.invariant.0 ∙ again_later c.args.nodes.now c.loop-i.i c.index-nodes-i.result c.loop-i-test.true c.index-nodes-i.is new,
+      small_more c.args.nodes.now c.loop-i.i c.index-nodes-i.result c.loop-i-test.true c.index-nodes-i.is (omega (arith, id.same, id.small)) c.loop-i.invariant.1,
+    )

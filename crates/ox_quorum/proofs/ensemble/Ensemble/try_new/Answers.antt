@@ -1,4 +1,4 @@
-use Rattle.std.proofs.Common.{rules, ◌<◌, ◌≤◌, [], length, sym, ap, ◌∙◌}
+use Rattle.std.proofs.Common.{rules, ◌<◌, ◌≤◌, ◌^◌, All, [], length, sym, ap, subst, ◌∙◌}
 use Rattle.std.proofs.lemmas.List.Sorted.{IsNonDecreasingBy-from_sort_by_key}
 use Rattle.ox_quorum.specs.Ensemble.{first_again}
 use Rattle.ox_quorum.proofs.Again.{ensemble_told}
@@ -11,7 +11,9 @@ returns c =
     let rising = IsNonDecreasingBy-from_sort_by_key (λ n. n) c.sort_unstable_by_key.new.self.items sort.sorted (λ a r q k. search rules) in
     let some : 0 < length c.args.nodes.items = search rules in
     let few : length c.args.nodes.items ≤ 7 = search rules in
-    ensemble_told c.args.nodes.items _ some few (ap (first_again []) (sym c.as_slice.ensures.value) ∙ sym c.first_repeated.ensures ∙ c.in_default.is) sort.permutation rising
+    let none = ap (first_again []) (sym c.as_slice.ensures.value) ∙ sym c.first_repeated.ensures.first ∙ c.in_default.is in
+    let small : All (λ n. n < 2 ^ 32) c.args.nodes.items = subst (All (λ n. n < 2 ^ 32)) c.as_slice.ensures.value c.in_default.ensures.ids in
+    ensemble_told c.args.nodes.items _ some few none small sort.permutation rising
 
 pub invariant_of-result : goal.invariant_of-result
 invariant_of-result c =
@@ -19,4 +21,6 @@ invariant_of-result c =
     let rising = IsNonDecreasingBy-from_sort_by_key (λ n. n) c.sort_unstable_by_key.new.self.items sort.sorted (λ a r q k. search rules) in
     let some : 0 < length c.args.nodes.items = search rules in
     let few : length c.args.nodes.items ≤ 7 = search rules in
-    (ensemble_told c.args.nodes.items _ some few (ap (first_again []) (sym c.as_slice.ensures.value) ∙ sym c.first_repeated.ensures ∙ c.in_default.is) sort.permutation rising).0
+    let none = ap (first_again []) (sym c.as_slice.ensures.value) ∙ sym c.first_repeated.ensures.first ∙ c.in_default.is in
+    let small : All (λ n. n < 2 ^ 32) c.args.nodes.items = subst (All (λ n. n < 2 ^ 32)) c.as_slice.ensures.value c.in_default.ensures.ids in
+    (ensemble_told c.args.nodes.items _ some few none small sort.permutation rising).0
