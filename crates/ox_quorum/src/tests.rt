@@ -86,6 +86,21 @@ fn configs_are_read_as_they_are_written(rt: HostRuntime) -> Result<(), Fail> {
 }
 
 #[test]
+fn a_config_that_was_made_can_be_written(rt: HostRuntime) -> Result<(), Fail> {
+    let joint = Config::Joint(
+        ensemble(rt.alloc(), &[2, 1])?,
+        ensemble(rt.alloc(), &[258])?,
+    );
+    law_config(&joint);
+    let text = encode(rt.alloc(), &joint)?;
+    let expected = [
+        1, 0, 0, 0, 2, 0, 0, 0, 1, 0, 0, 0, 2, 0, 0, 0, 1, 0, 0, 1, 2,
+    ];
+    assert_eq!(rt; text.as_slice(), expected.as_slice());
+    Ok(())
+}
+
+#[test]
 fn a_config_is_refused_at_its_first_fault(rt: HostRuntime) {
     assert_eq!(rt; bad(rt.alloc(), &[2, 0]), fault(2, WireRule::Tag));
     assert_eq!(rt;
