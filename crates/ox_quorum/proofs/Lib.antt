@@ -1,0 +1,6 @@
+-- Lemmas of this crate.
+mod Again
+mod Nodes
+mod Points
+mod Quorums
+mod Tables
