@@ -1,0 +1,4 @@
+mod Keeping
+mod Pages
+mod Ready
+mod Runs
