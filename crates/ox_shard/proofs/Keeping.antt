@@ -1,12 +1,11 @@
 -- What holds of each batch of notices holds of those that are kept.
-use Rattle.std.proofs.Common.{◌≡◌, sym, ap, subst, refl, ℕ, zero, suc, ◌+◌, ◌<◌, ◌≤◌, Bool, true, false, leb, List, [], ◌∷◌, ◌++◌, length, sum_by, All, arith}
-use Rattle.std.specs.Prelude.{nat_le}
+use Rattle.std.proofs.Common.{◌≡◌, refl, ℕ, zero, suc, ◌+◌, Bool, true, false, leb, List, [], ◌∷◌, sum_by, All, arith}
 use Rattle.std.proofs.lemmas.List.Elements.{All-filter, All-append}
 use Rattle.ox_ops.specs.declared.notice.Notice.{Notice}
 use Rattle.ox_ops.specs.declared.notice.NoticeBatch.{NoticeBatch}
 use Rattle.ox_ops.specs.State.{ShardState}
 use Rattle.ox_ops.specs.Weight.{batch_weight}
-use Rattle.ox_ops.specs.Apply.{kept_time, kept_weight, young, light, with_batch, retained}
+use Rattle.ox_ops.specs.Apply.{kept_time, kept_weight, light, with_batch, retained}
 
 module _ (P : NoticeBatch → Type 0) where
   All-light : (batches : List NoticeBatch) → All P batches → All P (light batches)

@@ -1,5 +1,5 @@
 -- A lawful write without a fault has 1,000 puts at most, each of which the records take.
-use Rattle.std.proofs.Common.{◌≡◌, ◌∙◌, refl, ℕ, ◌+◌, ◌≤◌, ◌^◌, ◌==◌, ◌&&◌, ◌||◌, Bool, true, false, cond, List, [], ◌∷◌, length, ltb, ltb-false, Option, Some, None, is_none, arith}
+use Rattle.std.proofs.Common.{◌≡◌, refl, ℕ, ◌+◌, ◌≤◌, ◌^◌, ◌==◌, ◌&&◌, ◌||◌, Bool, true, false, List, [], ◌∷◌, length, ltb, ltb-false, Option, Some, None, is_none, arith}
 use Rattle.std.specs.List.{list_all}
 use Rattle.std.specs.Option.{option_map}
 use Rattle.ox_bytes.specs.Fields.{list}
@@ -7,10 +7,10 @@ use Rattle.ox_order.specs.Forms.{key_range}
 use Rattle.ox_ops.specs.declared.write.Put.{Put}
 use Rattle.ox_ops.specs.declared.write.WriteBatch.{WriteBatch}
 use Rattle.ox_ops.specs.declared.write.ShardCommand.{ShardCommand}
-use Rattle.ox_ops.specs.declared.write.ShardCommand.TheVariants.{Write, Open, Close, Expire}
+use Rattle.ox_ops.specs.declared.write.ShardCommand.TheVariants.{Write}
 use Rattle.ox_ops.specs.Forms.{command, write_batch, put, delete}
 use Rattle.ox_ops.specs.Check.{◌or_else◌, fault_if, put_fault, put_faults, bad_put, is_many, operations_in, batch_fault, command_fault}
-use Rattle.ox_shard.specs.Fits.{is_plain_put, is_plain, is_ready}
+use Rattle.ox_shard.specs.Fits.{is_ready}
 
 both : (p q : Bool) → (p && q) ≡ true → (p ≡ true) × (q ≡ true)
 both true true e = (refl, refl)
@@ -36,14 +36,13 @@ unmapped : {A B : Type 0} (f : A → B) (o : Option A) → option_map f o ≡ No
 unmapped f None e = refl
 unmapped f (Some x) e = cc
 
-puts-ready : (index : ℕ) (ps : List Put) → list_all put.is_lawful ps ≡ true → put_faults index ps ≡ None → list_all is_plain_put ps ≡ true → list_all is_ready ps ≡ true
-puts-ready index [] h e f = refl
-puts-ready index (p ∷ ps) h e f =
+puts-ready : (index : ℕ) (ps : List Put) → list_all put.is_lawful ps ≡ true → put_faults index ps ≡ None → list_all is_ready ps ≡ true
+puts-ready index [] h e = refl
+puts-ready index (p ∷ ps) h e =
     let lawful = both (put.is_lawful p) (list_all put.is_lawful ps) h in
     let free = no_fault (option_map (bad_put index) (put_fault p)) (put_faults (index + 1) ps) e in
-    let plain = both (is_plain_put p) (list_all is_plain_put ps) f in
     let faultless : is_none (put_fault p) ≡ true = unmapped (bad_put index) (put_fault p) free.0 in
-    joined (is_ready p) (list_all is_ready ps) (joined (put.is_lawful p && is_none (put_fault p)) (is_plain_put p) (joined (put.is_lawful p) (is_none (put_fault p)) lawful.0 faultless) plain.0) (puts-ready (index + 1) ps lawful.1 free.1 plain.1)
+    joined (is_ready p) (list_all is_ready ps) (joined (put.is_lawful p) (is_none (put_fault p)) lawful.0 faultless) (puts-ready (index + 1) ps lawful.1 free.1)
 
 lawful_puts : (b : WriteBatch) → command.is_lawful (Write b) ≡ true → list_all put.is_lawful b.puts ≡ true
 unfolding command write_batch
@@ -63,9 +62,9 @@ few b bytes e =
     omega arith
 
 module _ (c : ShardCommand) (b : WriteBatch) (is : c ≡ Write b) where
-  pub ready : command.is_lawful c ≡ true → command_fault c ≡ None → is_plain c ≡ true → list_all is_ready b.puts ≡ true
+  pub ready : command.is_lawful c ≡ true → command_fault c ≡ None → list_all is_ready b.puts ≡ true
   unfolding command_fault
-  ready h e f = puts-ready 0 b.puts (lawful_puts b (rw is at h)) (free_puts b _ (rw is at e)) (rw is at f)
+  ready h e = puts-ready 0 b.puts (lawful_puts b (rw is at h)) (free_puts b _ (rw is at e))
 
   pub few_puts : command_fault c ≡ None → length b.puts ≤ 1000
   unfolding command_fault

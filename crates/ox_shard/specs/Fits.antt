@@ -1,9 +1,6 @@
--- Which states fit a number of entries, and which commands and queries a shard takes so far.
-use Rattle.std.specs.Prelude.{ℕ, ◌*◌, ◌<◌, ◌≤◌, Bool, true, false, ◌&&◌, ◌==◌, nat_le, is_none, All, List, length}
-use Rattle.std.specs.List.{list_all}
+-- Which states fit a number of entries, and which queries a shard answers so far.
+use Rattle.std.specs.Prelude.{ℕ, ◌*◌, ◌<◌, ◌≤◌, Bool, true, ◌&&◌, is_none, All}
 use Rattle.ox_ops.specs.declared.write.Put.{Put}
-use Rattle.ox_ops.specs.declared.write.ShardCommand.{ShardCommand}
-use Rattle.ox_ops.specs.declared.write.ShardCommand.TheVariants.{Write}
 use Rattle.ox_ops.specs.declared.query.ShardQuery.{ShardQuery}
 use Rattle.ox_ops.specs.declared.query.ShardQuery.TheVariants as query
 use Rattle.ox_ops.specs.declared.notice.NoticeBatch.{NoticeBatch}
@@ -16,23 +13,14 @@ pub record FitsCount (count : ℕ) (s : ShardState) : Type 0 where
   pub versions : s.next_version ≤ 1000 * count
   pub offsets : All (λ (b : NoticeBatch). b.offset < count) s.batches
 
--- a put without a session and without index entries
-abbrev pub is_plain_put : Put → Bool
-is_plain_put p = is_none p.session && length p.indexes == 0
-
--- until there are sessions and indexes: a write of such puts
-abbrev pub is_plain : ShardCommand → Bool
-is_plain (Write b) = list_all is_plain_put b.puts
-is_plain _ = false
-
--- until there are sessions and indexes: a get, a list or a scan by key, or notices
+-- until there are indexes: a get, a list or a scan by key, notices, or a sign of life
 abbrev pub is_by_key : ShardQuery → Bool
 is_by_key (query.Get compare key by) = is_none by
 is_by_key (query.List range by) = is_none by
 is_by_key (query.Scan range by) = is_none by
 is_by_key (query.Notices n skip) = true
-is_by_key (query.KeepAlive id) = false
+is_by_key (query.KeepAlive id) = true
 
--- a put that the records take: lawful, without a fault, and plain
+-- a put that the records take: lawful, and without a fault
 abbrev pub is_ready : Put → Bool
-is_ready p = put.is_lawful p && is_none (put_fault p) && is_plain_put p
+is_ready p = put.is_lawful p && is_none (put_fault p)

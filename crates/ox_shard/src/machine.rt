@@ -3,42 +3,31 @@ ghost use Rattle.std.specs.Prelude.{◌≡◌, ◌≤◌, ◌<◌, ◌+◌, ◌^
 ghost use Rattle.ox_ops.specs.State.{empty_state};
 ghost use Rattle.ox_ops.specs.Apply.{apply_entry};
 ghost use Rattle.ox_ops.specs.Answer.{answer_to};
-ghost use Rattle.ox_ops.specs.Check.{command_fault};
+ghost use Rattle.ox_ops.specs.Check.{command_fault, is_write};
 ghost use Rattle.ox_ops.specs.Forms.{command as command_form};
-ghost use Rattle.std.specs.List.{list_all};
-ghost use Rattle.ox_shard.specs.Fits.{FitsCount, is_plain_put, is_plain, is_by_key};
+ghost use Rattle.ox_shard.specs.Fits.{FitsCount, is_by_key};
 
 use ox_notice::Notices;
-use ox_ops::{Put, ShardAnswer, ShardCommand, ShardQuery, ShardReply};
+use ox_ops::{ShardAnswer, ShardCommand, ShardQuery, ShardReply};
 use ox_puts::Records;
 use ox_types::{EntryId, NoMemory};
 use std::alloc::Global;
 use std::marker::Model;
 
-/// Whether the command is one that a shard takes so far: a write whose puts have no session and no index entries. It costs a
-/// walk over the puts.
+/// Whether the command is one that a shard takes so far: a write. It costs nothing.
 pub fn is_taken(command: &ShardCommand) -> bool
-    ensures { result ≡ is_plain command.now }
+    ensures { result ≡ is_write command.now }
 {
     match command {
-        ShardCommand::Write(batch) => are_plain(batch.puts.as_slice()),
-        ShardCommand::Open { .. } | ShardCommand::Close { .. } | ShardCommand::Expire { .. } =>
-            false,
-    }
-}
-
-fn are_plain(puts: &[Put]) -> bool
-    ensures { result ≡ list_all is_plain_put puts.now }
-{
-    for put in puts {
-        if put.session.is_some() || !put.indexes.is_empty() {
-            return false;
+        ShardCommand::Write(_) => true,
+        ShardCommand::Open { .. } | ShardCommand::Close { .. } | ShardCommand::Expire { .. } => {
+            false
         }
     }
-    true
 }
 
-/// Whether the query is one that a shard answers so far: a get, a list or a scan by key, or notices.
+/// Whether the query is one that a shard answers so far: a get, a list or a scan by key, notices, or
+/// a sign of life.
 pub fn is_answered(query: &ShardQuery) -> bool
     ensures { result ≡ is_by_key query.now }
 {
@@ -47,7 +36,7 @@ pub fn is_answered(query: &ShardQuery) -> bool
         ShardQuery::List { by, .. } => by.is_none(),
         ShardQuery::Scan { by, .. } => by.is_none(),
         ShardQuery::Notices { .. } => true,
-        ShardQuery::KeepAlive { .. } => false,
+        ShardQuery::KeepAlive { .. } => true,
     }
 }
 
@@ -98,7 +87,7 @@ impl ShardMachine {
         requires offset { id.offset < 2 ^ 53 }
         requires lawful { IsTrue (command_form.is_lawful command.now) }
         requires faultless { command_fault command.now ≡ None }
-        requires plain { IsTrue (is_plain command.now) }
+        requires write { IsTrue (is_write command.now) }
         ensures state { OnOk result (self.new ≡ (apply_entry self.old id.offset time command.now).state) }
         ensures replies { IfOk result (λ reply. reply.ops ≡ (apply_entry self.old id.offset time command.now).replies) }
         ensures fits { OnOk result (FitsCount (id.offset + 1) self.new) }

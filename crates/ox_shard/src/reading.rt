@@ -3,7 +3,7 @@ ghost use Rattle.std.specs.Prelude.{◌≡◌, map, filter, IsTrue, IfOk};
 ghost use Rattle.std.specs.Option.{option_copied};
 ghost use Rattle.ox_order.specs.Range.{in_range};
 ghost use Rattle.ox_ops.specs.declared.answer.Record.{Record as RecordSpec};
-ghost use Rattle.ox_ops.specs.Answer.{compared, keys_page, records_page, notices_after, answer_to};
+ghost use Rattle.ox_ops.specs.Answer.{compared, keys_page, records_page, notices_after, kept_alive, answer_to};
 ghost use Rattle.ox_ops.specs.Page.{key_size, record_size};
 ghost use Rattle.ox_page.specs.Filling.{Holds};
 ghost use Rattle.ox_puts.specs.Records.{records_in};
@@ -88,6 +88,14 @@ impl ShardMachine {
         }
     }
 
+    /// No session is open yet.
+    fn heard(&self, session: u64) -> ShardAnswer
+        ensures { result ≡ kept_alive self.now session }
+    {
+        let _ = &self.alloc;
+        ShardAnswer::SessionDoesNotExist { session }
+    }
+
     #[tactic(auto, unfolding(ox_ops::specs::Answer::answer_to))]
     pub(crate) fn answer(&self, query: &ShardQuery) -> Result<ShardAnswer, NoMemory>
         requires { IsTrue (is_by_key query.now) }
@@ -100,9 +108,7 @@ impl ShardMachine {
             ShardQuery::List { range, .. } => Ok(self.list(range)?),
             ShardQuery::Scan { range, .. } => Ok(self.scan(range)?),
             ShardQuery::Notices { after, skip } => self.notices_past(*after, *skip),
-            ShardQuery::KeepAlive { session } => Ok(ShardAnswer::SessionDoesNotExist {
-                session: *session,
-            }),
+            ShardQuery::KeepAlive { session } => Ok(self.heard(*session)),
         }
     }
 }

@@ -5,10 +5,10 @@ ghost use Rattle.ox_ops.specs.declared.notice.NoticeBatch.{NoticeBatch};
 ghost use Rattle.ox_ops.specs.State.{ShardState};
 ghost use Rattle.ox_ops.specs.Operation.{put_on, delete_on, range_on};
 ghost use Rattle.ox_ops.specs.Apply.{Applied, and_then, each_on, batch_on, command_on, moved_to, retained, with_batch, apply_entry};
-ghost use Rattle.ox_ops.specs.Check.{put_fault, command_fault};
-ghost use Rattle.ox_ops.specs.Forms.{put as put_form, command as command_form};
+ghost use Rattle.ox_ops.specs.Check.{command_fault, is_write};
+ghost use Rattle.ox_ops.specs.Forms.{command as command_form};
 ghost use Rattle.ox_shard.specs.Done.{applied_of};
-ghost use Rattle.ox_shard.specs.Fits.{FitsCount, is_plain_put, is_plain, is_ready};
+ghost use Rattle.ox_shard.specs.Fits.{FitsCount, is_ready};
 
 use crate::done::Done;
 use crate::machine::ShardMachine;
@@ -122,13 +122,13 @@ impl ShardMachine {
         requires offset { offset < 2 ^ 53 }
         requires lawful { IsTrue (command_form.is_lawful command.now) }
         requires faultless { command_fault command.now ≡ None }
-        requires plain { IsTrue (is_plain command.now) }
+        requires write { IsTrue (is_write command.now) }
         ensures state { OnOk result (self.new ≡ (apply_entry self.old offset time command.now).state) }
         ensures replies { IfOk result (λ reply. reply.ops ≡ (apply_entry self.old offset time command.now).replies) }
         ensures fits { OnOk result (FitsCount (offset + 1) self.new) }
     {
         let ShardCommand::Write(batch) = command else {
-            // No plain command comes here.
+            // No write comes here.
             return Ok(ShardReply {
                 ops: List::new(self.alloc),
             });

@@ -6,7 +6,7 @@ use Rattle.ox_shard.proofs.Ready.{ready, few_puts}
 use Rattle.ox_shard.proofs.machine.ShardMachine.apply_at.Goals as goal
 
 pub write-requires-clause-ready : goal.write-requires-clause-ready
-write-requires-clause-ready c = ready c.args.command.now c.in-Write.batch c.in-Write.is c.requires.lawful c.requires.faultless c.requires.plain
+write-requires-clause-ready c = ready c.args.command.now c.in-Write.batch c.in-Write.is c.requires.lawful c.requires.faultless
 
 pub write-requires-clause-versions : goal.write-requires-clause-versions
 write-requires-clause-versions c =

@@ -1,4 +1,4 @@
-use Rattle.std.proofs.Common.{◌≡◌, ◌≤◌, ◌+◌, subst}
+use Rattle.std.proofs.Common.{◌≤◌, ◌+◌, subst}
 use Rattle.ox_ops.specs.State.{ShardState}
 use Rattle.ox_shard.proofs.machine.ShardMachine.put.Goals as goal
 

@@ -1,4 +1,4 @@
-use Rattle.std.proofs.Common.{◌≡◌, subst, map, filter}
+use Rattle.std.proofs.Common.{◌≡◌, subst, filter}
 use Rattle.ox_order.specs.Range.{in_range}
 use Rattle.ox_ops.specs.declared.answer.Record.{Record}
 use Rattle.ox_ops.specs.declared.answer.ShardAnswer.TheVariants as answer
