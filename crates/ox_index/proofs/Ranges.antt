@@ -1,6 +1,6 @@
 -- The added entries of one index with a secondary key in a range are neighbours.
 use Rattle.std.proofs.Common.{◌≡◌, ◌∙◌, ℕ, ◌-◌, ◌≤◌, Bool, true, false, List, [], take, drop, filter, map, refl, sym, ap, arith}
-use Rattle.std.specs.Prelude.{not, ◌&&◌}
+use Rattle.std.specs.Prelude.{max, not, ◌&&◌}
 use Rattle.std.specs.Ordering.{is_lt, is_le, is_eq, ordering_reverse}
 use Rattle.std.specs.Cmp.Lexicographic.{texts_ties}
 use Rattle.std.specs.declared.cmp.Ordering.{Ordering}
@@ -71,13 +71,12 @@ module _ (name : List ℕ) (range : KeyRange) (xs : List Added) (start end : ℕ
       ∙ ap (filter (is_before_end name range.hi)) (cut_back (is_before_start name range.lo) xs start low)
       ∙ cut_window (is_before_end name range.hi) xs end high start
 
-  pub keys_between : map (λ a. a.key) (take (end - start) (drop start xs)) ≡ map (λ p. p.key) (filter (λ p. in_range range p.second) (pairs_under name xs))
-  keys_between =
-      ap (map (λ (a : Added). a.key)) (sym window)
-      ∙ sym (ap (map (λ p. p.key)) (filter_map_first pair_of (λ p. in_range range p.second) (filter (has_name name) xs))
-      ∙ map_both pair_of (λ p. p.key) (filter (λ a. in_range range a.entry.key) (filter (has_name name) xs)))
+  -- the pairs of the range
+  pub pairs_between : (stop : ℕ) → stop ≡ max end start → map pair_of (take (stop - start) (drop start xs)) ≡ filter (λ p. in_range range p.second) (pairs_under name xs)
+  pairs_between stop is =
+      let same : stop - start ≡ end - start = omega arith in
+      rw same (ap (map pair_of) (sym window) ∙ sym (filter_map_first pair_of (λ p. in_range range p.second) (filter (has_name name) xs)))
 
-  pub keys_nowhere : end ≤ start → [] ≡ map (λ p. p.key) (filter (λ p. in_range range p.second) (pairs_under name xs))
-  keys_nowhere le =
-      let none : end - start ≡ 0 = omega arith in
-      rw none at keys_between
+-- the keys of their pairs
+pub keys_behind : (entries : List Added) → map (λ (a : Added). a.key) entries ≡ map (λ p. p.key) (map pair_of entries)
+keys_behind entries = sym (map_both pair_of (λ p. p.key) entries)

@@ -3,7 +3,7 @@ ghost use Rattle.std.specs.Option.{option_copied, option_map};
 ghost use Rattle.ox_order.specs.Range.{in_range};
 ghost use Rattle.ox_ops.specs.Answer.{compared};
 ghost use Rattle.ox_index.specs.Order.{IsInOrder};
-ghost use Rattle.ox_index.specs.Pairs.{pairs_under, with_added, without_added};
+ghost use Rattle.ox_index.specs.Pairs.{pair_of, pairs_under, with_added, without_added};
 
 use crate::added::{Added, copy_of};
 use crate::find::{find, keys_of};
@@ -86,6 +86,18 @@ impl Index {
         }
     }
 
+    /// The entries with a secondary key of the range in the index of this name, by secondary key and then key, at the cost of
+    /// two binary searches.
+    pub fn within(&self, name: &[u8], range: &KeyRange) -> &[Added]
+        ensures pairs { map pair_of result.now ≡ filter (λ p. in_range range.now p.second) (pairs_under name.now self.now) }
+        ensures in_order { IsInOrder self.now }
+    {
+        let entries = self.entries.as_slice();
+        let start = start_of(entries, name, &range.lo);
+        let end = end_of(entries, name, &range.hi);
+        &entries[start..end.max(start)]
+    }
+
     /// The keys of the records with a secondary key of the range in the index of this name, by secondary key and then key:
     /// one for each entry. It costs two binary searches and copies of the keys.
     pub fn list(&self, name: &[u8], range: &KeyRange) -> Result<List<Key>, NoMemory>
@@ -93,13 +105,6 @@ impl Index {
         ensures in_order { IsInOrder self.now }
     {
         let alloc = *self.entries.allocator();
-        let entries = self.entries.as_slice();
-        let start = start_of(entries, name, &range.lo);
-        let end = end_of(entries, name, &range.hi);
-        if start < end {
-            keys_of(alloc, &entries[start..end])
-        } else {
-            Ok(List::new(alloc))
-        }
+        keys_of(alloc, self.within(name, range))
     }
 }

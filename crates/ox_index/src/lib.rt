@@ -7,6 +7,7 @@ mod index;
 mod laws;
 mod place;
 
+pub use added::Added;
 pub use index::Index;
 pub use laws::{edits_change_one_entry, indexes_are_told_by_their_entries, pairs_are_sorted};
 

@@ -18,7 +18,7 @@ use crate::parts::{
     copy_entries, copy_range, meets, meta_over, put_notice, range_notice, version_of,
 };
 use crate::record_table::RecordTable;
-use crate::weight::{WEIGHT_LIMIT, record_weight, records_weight, weight_with};
+use crate::weight::{WEIGHT_LIMIT, record_weight, records_weight, weight_if_some, weight_with};
 use ox_ops::{Compare, Delete, KeyRange, Notice, OpReply, Put, Record};
 use ox_table::TableRange;
 use ox_types::{Key, List, NoMemory};
@@ -104,7 +104,8 @@ impl Records {
     /// Takes a weight back that was charged.
     pub fn refund(&mut self, weight: u64)
         requires { weight ≤ self.old.other }
-        ensures { self.new ≡ record self.old { other = self.old.other - weight } }
+        ensures refunded { self.new ≡ record self.old { other = self.old.other - weight } }
+        ensures was_sound { IsSound self.old }
     {
         self.other -= weight;
     }
@@ -184,6 +185,18 @@ impl Records {
         ensures err { OnErr result (self.new ≡ self.old) }
     {
         self.remove_range(range)
+    }
+
+    /// Takes the record of the key out and gives it, if it is there. It takes no memory, and costs a binary search and one
+    /// move of the records behind the key.
+    pub fn take(&mut self, key: &Key) -> Option<Record>
+        ensures taken { result ≡ record_of key.now self.old.records }
+        ensures after { self.new ≡ record self.old { records = without_key key.now self.old.records } }
+        ensures was_sound { IsSound self.old }
+    {
+        let old = self.table.remove(key);
+        self.held -= weight_if_some(old.as_ref());
+        old
     }
 
     fn remove(&mut self, key: &Key) -> Result<Change, NoMemory>

@@ -151,6 +151,10 @@ fn a_range_delete_gives_what_it_removes(rt: HostRuntime) -> Result<(), Fail> {
     };
     assert_eq!(rt; records.scan(&range).count(), 1);
     assert_eq!(rt; records.delete_range(&range)?.gone.len(), 1);
+    let left = key(alloc, "b")?;
+    assert!(rt; records.take(&left).is_some());
+    assert!(rt; records.take(&left).is_none());
+    assert_eq!(rt; records.weight(), 0);
     Ok(())
 }
 

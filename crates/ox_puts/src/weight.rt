@@ -31,6 +31,17 @@ pub fn record_weight(item: &Record) -> u64
     own + entries_weight(item.indexes.as_slice())
 }
 
+/// What the record weighs, if there is one.
+pub fn weight_if_some(item: Option<&Record>) -> u64
+    requires { old_weight (option_copied item) ≤ 268435456 }
+    ensures { result ≡ old_weight (option_copied item.entry) }
+{
+    match item {
+        None => 0,
+        Some(item) => record_weight(item),
+    }
+}
+
 /// What the records weigh together.
 pub fn records_weight(records: &[Record]) -> u64
     requires { sum_by weight_of_record records.now ≤ 268435456 }

@@ -1,4 +1,14 @@
+mod Entering
+mod Entries
 mod Keeping
+mod Keys
+mod Leaving
+mod Loops
+mod Opened
 mod Pages
+mod Puts
+mod Queries
 mod Ready
 mod Runs
+mod Sessions
+mod Ties

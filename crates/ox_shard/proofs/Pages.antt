@@ -1,19 +1,13 @@
 -- A page that is filled from the pairs of a range.
-use Rattle.std.proofs.Common.{◌≡◌, ◌∙◌, sym, ap, subst, refl, ℕ, ◌-◌, Bool, true, false, List, [], ◌∷◌, ◌++◌, map, filter, Option, Some, None, is_none, append_assoc}
+use Rattle.std.proofs.Common.{◌≡◌, ◌∙◌, sym, ap, subst, refl, ℕ, ◌+◌, ◌-◌, ◌<◌, get_or, length, take, drop, Bool, true, false, List, [], ◌∷◌, ◌++◌, map, Option, Some, None, append_assoc}
 use Rattle.std.specs.Prelude.{min}
-use Rattle.std.proofs.lemmas.List.{map-append, append-nil}
-use Rattle.ox_order.specs.declared.range.KeyRange.{KeyRange}
-use Rattle.ox_order.specs.Range.{in_range}
+use Rattle.std.specs.List.{filter_map}
+use Rattle.std.proofs.lemmas.List.{map-append, append-nil, at_drop_more, take-append-drop, take_more}
+use Rattle.std.proofs.lemmas.List.Elements.{filter_map-append}
 use Rattle.ox_ops.specs.declared.answer.Record.{Record}
-use Rattle.ox_ops.specs.declared.answer.ShardAnswer.{ShardAnswer}
 use Rattle.ox_ops.specs.declared.answer.ShardAnswer.TheVariants as answer
-use Rattle.ox_ops.specs.declared.query.Compare.{Compare}
-use Rattle.ox_ops.specs.declared.query.ShardQuery.{ShardQuery}
-use Rattle.ox_ops.specs.declared.query.ShardQuery.TheVariants as query
-use Rattle.ox_ops.specs.State.{ShardState}
 use Rattle.ox_ops.specs.Page.{key_size, record_size}
-use Rattle.ox_ops.specs.Answer.{compared, keys_page, records_page, answer_to}
-use Rattle.ox_shard.specs.Fits.{is_by_key}
+use Rattle.ox_ops.specs.Answer.{keys_page, records_page}
 use Rattle.ox_page.specs.Filling.{Filling, Holds, has_room}
 use Rattle.ox_page.specs.FillingLaws.{holds-room, holds-full}
 use Rattle.ox_puts.specs.Records.{keyed, records_in}
@@ -74,21 +68,37 @@ records-are pairs records page items more is holds e f =
     let held : Holds record_size page records = subst (Holds record_size page) same holds in
     rw (e, f, held.items, held.more) refl
 
--- ---- queries by key
+pub keys-told : (keys : List (List ℕ)) (page : Filling (List ℕ)) (items : List (List ℕ)) (more : Bool) → Holds key_size page keys → items ≡ page.items → more ≡ page.more → answer.Keys items more ≡ keys_page keys
+keys-told keys page items more held e f = rw (e, f, held.items, held.more) refl
 
-none-is : {A : Type 0} (o : Option A) → is_none o ≡ true → o ≡ None
-none-is None e = refl
-none-is (Some x) e = cc e
+pub records-told : (records : List Record) (page : Filling Record) (items : List Record) (more : Bool) → Holds record_size page records → items ≡ page.items → more ≡ page.more → answer.Records items more ≡ records_page records
+records-told records page items more held e f = rw (e, f, held.items, held.more) refl
 
-module _ (s : ShardState) (q : ShardQuery) (by_key : is_by_key q ≡ true) where
-  pub got-by-key : (compare : Compare) (key : List ℕ) (by : Option (List ℕ)) (found : Option Record) → q ≡ query.Get compare key by → found ≡ compared (λ (r : Record). r.key) compare key s.records → answer.Got found ≡ answer_to s q
-  unfolding answer_to
-  got-by-key compare key by found is e = rw (is, none-is by (rw is at by_key), e) refl
+-- ---- a page that is filled from index entries
 
-  pub listed-by-key : (range : KeyRange) (by : Option (List ℕ)) (told : ShardAnswer) → q ≡ query.List range by → told ≡ keys_page (map (λ (r : Record). r.key) (filter (λ (r : Record). in_range range r.key) s.records)) → told ≡ answer_to s q
-  unfolding answer_to
-  listed-by-key range by told is e = rw (is, none-is by (rw is at by_key), e) refl
+module _ {X : Type 0} (xs : List X) (i : ℕ) (x : X) (within : i < length xs) (is : x ≡ get_or xs i x) where
+  split_at : xs ≡ take i xs ++ x ∷ drop (i + 1) xs
+  split_at = sym (take-append-drop i xs) ∙ ap (λ ys. take i xs ++ ys) (at_drop_more (λ ys. ys) xs i x within ∙ ap (λ y. y ∷ drop (i + 1) xs) (sym is))
 
-  pub scanned-by-key : (range : KeyRange) (by : Option (List ℕ)) (told : ShardAnswer) → q ≡ query.Scan range by → told ≡ records_page (filter (λ (r : Record). in_range range r.key) s.records) → told ≡ answer_to s q
-  unfolding answer_to
-  scanned-by-key range by told is e = rw (is, none-is by (rw is at by_key), e) refl
+  one_more : take (i + 1) xs ≡ take i xs ++ x ∷ []
+  one_more = take_more xs i x within ∙ ap (λ y. take i xs ++ y ∷ []) (sym is)
+
+module _ {A X : Type 0} (size : A → ℕ) (of : List X → List A) (nil : of [] ≡ []) (append : (xs ys : List X) → of (xs ++ ys) ≡ of xs ++ of ys) (xs : List X) (i : ℕ) (x : X) (within : i < length xs) (is : x ≡ get_or xs i x)
+    (a : A) (one : (ys : List X) → of (x ∷ ys) ≡ a ∷ of ys) (page : Filling A) (s : ℕ) (sized : s ≡ min (size a) 18446744073709551615) (holds : Holds size page (of (take i xs)))
+  where
+    pub entry-full : has_room page s ≡ false → Holds size (record { items = page.items; room = page.room; more = true }) (of xs)
+    entry-full full =
+        let all : of xs ≡ of (take i xs) ++ a ∷ of (drop (i + 1) xs) = ap of (split_at xs i x within is) ∙ append (take i xs) (x ∷ drop (i + 1) xs) ∙ ap (λ ys. of (take i xs) ++ ys) (one (drop (i + 1) xs)) in
+        subst (Holds size (record { items = page.items; room = page.room; more = true })) (sym all) (holds-full size page (of (take i xs)) holds a s sized full (of (drop (i + 1) xs)))
+
+    pub entry-room : has_room page s ≡ true → Holds size (record { items = page.items ++ a ∷ []; room = page.room - s; more = page.more }) (of (take (i + 1) xs))
+    entry-room room =
+        let all : of (take (i + 1) xs) ≡ of (take i xs) ++ a ∷ [] = ap of (one_more xs i x within is) ∙ append (take i xs) (x ∷ []) ∙ ap (λ ys. of (take i xs) ++ ys) (one [] ∙ ap (λ ys. a ∷ ys) nil) in
+        subst (Holds size (record { items = page.items ++ a ∷ []; room = page.room - s; more = page.more })) (sym all) (holds-room size page (of (take i xs)) holds a s sized room)
+
+-- an entry whose record isn't there is passed over
+pub entry-skip : {X A : Type 0} (f : X → Option A) (xs : List X) (i : ℕ) (x : X) → i < length xs → x ≡ get_or xs i x → f x ≡ None → filter_map f (take i xs) ≡ filter_map f (take (i + 1) xs)
+entry-skip f xs i x within is none = sym (ap (filter_map f) (one_more xs i x within is) ∙ filter_map-append f (take i xs) (x ∷ []) ∙ rw none (append-nil (filter_map f (take i xs))))
+
+pub one-found : {X A : Type 0} (f : X → Option A) (x : X) (a : A) → f x ≡ Some a → (ys : List X) → filter_map f (x ∷ ys) ≡ a ∷ filter_map f ys
+one-found f x a e ys = rw e refl

@@ -3,13 +3,14 @@ use Rattle.std.proofs.Common.{◌≡◌, refl, ℕ, ◌+◌, ◌≤◌, ◌^◌,
 use Rattle.std.specs.List.{list_all}
 use Rattle.std.specs.Option.{option_map}
 use Rattle.ox_bytes.specs.Fields.{list}
+use Rattle.ox_types.specs.declared.bad.Rule.TheVariants as rule
 use Rattle.ox_order.specs.Forms.{key_range}
 use Rattle.ox_ops.specs.declared.write.Put.{Put}
 use Rattle.ox_ops.specs.declared.write.WriteBatch.{WriteBatch}
 use Rattle.ox_ops.specs.declared.write.ShardCommand.{ShardCommand}
 use Rattle.ox_ops.specs.declared.write.ShardCommand.TheVariants.{Write}
 use Rattle.ox_ops.specs.Forms.{command, write_batch, put, delete}
-use Rattle.ox_ops.specs.Check.{◌or_else◌, fault_if, put_fault, put_faults, bad_put, is_many, operations_in, batch_fault, command_fault}
+use Rattle.ox_ops.specs.Check.{◌or_else◌, fault_if, put_fault, put_faults, bad_put, is_many, operations_in, has_repeated, batch_fault, command_fault}
 use Rattle.ox_shard.specs.Fits.{is_ready}
 
 both : (p q : Bool) → (p && q) ≡ true → (p ≡ true) × (q ≡ true)
@@ -69,3 +70,15 @@ module _ (c : ShardCommand) (b : WriteBatch) (is : c ≡ Write b) where
   pub few_puts : command_fault c ≡ None → length b.puts ≤ 1000
   unfolding command_fault
   few_puts e = few b _ (rw is at e)
+
+-- ---- one put
+
+-- a put that the records take has no two equal index entries
+pub ready-distinct : (p : Put) → is_ready p ≡ true → has_repeated p.indexes ≡ false
+ready-distinct p h =
+    let free : put_fault p ≡ None = none-is (put_fault p) (both (put.is_lawful p) (is_none (put_fault p)) h).1 in
+    passed (has_repeated p.indexes) rule.Repeated (no_fault _ (fault_if (has_repeated p.indexes) rule.Repeated) free).1
+  where
+    none-is : {A : Type 0} (o : Option A) → is_none o ≡ true → o ≡ None
+    none-is None e = refl
+    none-is (Some x) e = cc e

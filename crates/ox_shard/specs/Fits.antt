@@ -1,25 +1,24 @@
--- Which states fit a number of entries, and which queries a shard answers so far.
-use Rattle.std.specs.Prelude.{ℕ, ◌*◌, ◌<◌, ◌≤◌, Bool, true, ◌&&◌, is_none, All}
+-- Which states fit a number of entries, and which commands a log holds.
+use Rattle.std.specs.Prelude.{ℕ, ◌*◌, ◌<◌, ◌≤◌, ◌&&◌, Bool, true, false, is_none, All}
 use Rattle.ox_ops.specs.declared.write.Put.{Put}
-use Rattle.ox_ops.specs.declared.query.ShardQuery.{ShardQuery}
-use Rattle.ox_ops.specs.declared.query.ShardQuery.TheVariants as query
+use Rattle.ox_ops.specs.declared.write.ShardCommand.{ShardCommand}
+use Rattle.ox_ops.specs.declared.write.ShardCommand.TheVariants.{Expire}
 use Rattle.ox_ops.specs.declared.notice.NoticeBatch.{NoticeBatch}
-use Rattle.ox_ops.specs.State.{ShardState}
+use Rattle.ox_ops.specs.State.{ShardState, Session}
 use Rattle.ox_ops.specs.Check.{put_fault}
 use Rattle.ox_ops.specs.Forms.{put}
 
--- so many entries can have made the state: each stores 1,000 puts at most, and a batch of notices has an entry's offset
+-- so many entries can have made the state: each stores 1,000 puts at most, and a batch of notices and a session have the
+-- offset of an entry
 pub record FitsCount (count : ℕ) (s : ShardState) : Type 0 where
   pub versions : s.next_version ≤ 1000 * count
   pub offsets : All (λ (b : NoticeBatch). b.offset < count) s.batches
+  pub sessions : All (λ (x : Session). x.id < count) s.sessions
 
--- until there are indexes: a get, a list or a scan by key, notices, or a sign of life
-abbrev pub is_by_key : ShardQuery → Bool
-is_by_key (query.Get compare key by) = is_none by
-is_by_key (query.List range by) = is_none by
-is_by_key (query.Scan range by) = is_none by
-is_by_key (query.Notices n skip) = true
-is_by_key (query.KeepAlive id) = true
+-- is it an expiry, which a leader makes?
+abbrev pub is_expire : ShardCommand → Bool
+is_expire (Expire id) = true
+is_expire _ = false
 
 -- a put that the records take: lawful, and without a fault
 abbrev pub is_ready : Put → Bool

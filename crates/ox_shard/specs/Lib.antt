@@ -1,2 +1,5 @@
+pub mod Closing
 pub mod Done
 pub mod Fits
+pub mod Lists
+pub mod Parts

@@ -1,4 +1,4 @@
-ghost use Rattle.std.specs.Prelude.{◌≡◌, ◌++◌, ◌∷◌, [], OnOk};
+ghost use Rattle.std.specs.Prelude.{◌≡◌, ◌++◌, ◌∷◌, [], IfOk, OnOk};
 ghost use Rattle.ox_ops.specs.Apply.{some_notice};
 
 use ox_ops::{Notice, OpReply};
@@ -21,6 +21,15 @@ impl Done {
             replies: List::new(alloc),
             notices: List::new(alloc),
         }
+    }
+
+    /// One reply, and nothing else.
+    pub fn alone(alloc: Global, reply: OpReply) -> Result<Done, NoMemory>
+        ensures { IfOk result (λ done. done ≡ record { replies = reply ∷ []; notices = [] }) }
+    {
+        let mut done = Done::nothing(alloc);
+        done.replies.push(reply)?;
+        Ok(done)
     }
 
     pub fn add(&mut self, change: Change) -> Result<(), NoMemory>

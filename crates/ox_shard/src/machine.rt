@@ -1,65 +1,44 @@
 //! The state of a shard.
-ghost use Rattle.std.specs.Prelude.{◌≡◌, ◌≤◌, ◌<◌, ◌+◌, ◌^◌, None, IsTrue, IfOk, OnOk};
+ghost use Rattle.std.specs.Prelude.{◌≡◌, ◌<◌, ◌+◌, ◌^◌, map, false, None, IsTrue, IfOk, OnOk};
 ghost use Rattle.ox_ops.specs.State.{empty_state};
 ghost use Rattle.ox_ops.specs.Apply.{apply_entry};
 ghost use Rattle.ox_ops.specs.Answer.{answer_to};
-ghost use Rattle.ox_ops.specs.Check.{command_fault, is_write};
+ghost use Rattle.ox_ops.specs.Check.{command_fault};
 ghost use Rattle.ox_ops.specs.Forms.{command as command_form};
-ghost use Rattle.ox_shard.specs.Fits.{FitsCount, is_by_key};
+ghost use Rattle.ox_session.specs.Members.{timer_of};
+ghost use Rattle.ox_shard.specs.Fits.{FitsCount, is_expire};
 
-use ox_notice::Notices;
+use crate::parts::Parts;
 use ox_ops::{ShardAnswer, ShardCommand, ShardQuery, ShardReply};
-use ox_puts::Records;
-use ox_types::{EntryId, NoMemory};
+use ox_types::{EntryId, List, NoMemory, Timer};
 use std::alloc::Global;
 use std::marker::Model;
 
-/// Whether the command is one that a shard takes so far: a write. It costs nothing.
-pub fn is_taken(command: &ShardCommand) -> bool
-    ensures { result ≡ is_write command.now }
+/// Whether the command is an expiry, which a leader makes: `check` finds a fault in a client's. It costs nothing.
+pub fn is_expiry(command: &ShardCommand) -> bool
+    ensures { result ≡ is_expire command.now }
 {
-    match command {
-        ShardCommand::Write(_) => true,
-        ShardCommand::Open { .. } | ShardCommand::Close { .. } | ShardCommand::Expire { .. } => {
-            false
-        }
-    }
+    matches!(command, ShardCommand::Expire { .. })
 }
 
-/// Whether the query is one that a shard answers so far: a get, a list or a scan by key, notices, or
-/// a sign of life.
-pub fn is_answered(query: &ShardQuery) -> bool
-    ensures { result ≡ is_by_key query.now }
-{
-    match query {
-        ShardQuery::Get { by, .. } => by.is_none(),
-        ShardQuery::List { by, .. } => by.is_none(),
-        ShardQuery::Scan { by, .. } => by.is_none(),
-        ShardQuery::Notices { .. } => true,
-        ShardQuery::KeepAlive { .. } => true,
-    }
-}
-
-/// A shard (docs/STORE.md). Contracts see it as the state of the definitions.
+/// A shard: the one-thread store (docs/STORE.md). Contracts see it as the state of the definitions.
 #[derive(Debug, Drop)]
 pub struct ShardMachine {
-    pub(crate) alloc: Global,
-    /// The greatest time of an entry that was applied, in ms.
-    pub(crate) time: u64,
-    pub(crate) records: Records,
-    pub(crate) notices: Notices,
+    parts: Parts,
+    /// Whether each command that was begun was ended. Where memory ran out in one, the parts may not fit each other.
+    whole: bool,
 }
 
 impl Model for ShardMachine {
-    ghost use Rattle.std.specs.Prelude.{◌≡◌, ◌≤◌, [], All};
-    ghost use Rattle.ox_ops.specs.declared.notice.NoticeBatch.{NoticeBatch};
+    ghost use Rattle.std.specs.Prelude.{◌≡◌, true};
     ghost use Rattle.ox_ops.specs.State.{ShardState};
+    ghost use Rattle.ox_shard.specs.Parts.{state_of, IsTied};
 
     ghost Value = { ShardState };
 
-    ghost view = { λ m. record { time = m.time; next_version = m.records.next_version; low = m.notices.low; sessions = []; records = m.records.records; batches = m.notices.batches } };
+    ghost view = { λ m. state_of m.parts };
 
-    ghost invariant = { λ m. (m.records.other ≡ 0) × All (λ (b : NoticeBatch). b.time ≤ m.time) m.notices.batches };
+    ghost invariant = { λ m. m.whole ≡ true → IsTied m.parts };
 }
 
 impl ShardMachine {
@@ -67,16 +46,15 @@ impl ShardMachine {
         ensures { IfOk result (λ machine. machine ≡ empty_state) }
     {
         Ok(ShardMachine {
-            alloc,
-            time: 0,
-            records: Records::empty(alloc)?,
-            notices: Notices::empty(alloc)?,
+            parts: Parts::empty(alloc)?,
+            whole: true,
         })
     }
 
-    /// Applies the command of an entry with this time (ms), and gives a reply for each operation. A put or a delete costs a
-    /// few look-ups in the ordered table and work proportional to the record, a range delete its own length, and retention
-    /// what it drops. After an `Err` the machine is of no use: drop it.
+    /// Applies the command of an entry with this time (ms), and gives a reply for each operation. A put or a delete costs
+    /// look-ups in the ordered table, and one for its session and for each index entry, and work proportional to the record; a
+    /// range delete its own length; a close its members; retention what it drops. After an `Err` the machine only answers
+    /// `Err`: drop it.
     pub fn apply(
         &mut self,
         id: EntryId,
@@ -86,21 +64,36 @@ impl ShardMachine {
         requires fits { FitsCount id.offset self.old }
         requires offset { id.offset < 2 ^ 53 }
         requires lawful { IsTrue (command_form.is_lawful command.now) }
-        requires faultless { command_fault command.now ≡ None }
-        requires write { IsTrue (is_write command.now) }
+        // A client's command is checked; a leader makes expiries.
+        requires faultless { is_expire command.now ≡ false → command_fault command.now ≡ None }
         ensures state { OnOk result (self.new ≡ (apply_entry self.old id.offset time command.now).state) }
         ensures replies { IfOk result (λ reply. reply.ops ≡ (apply_entry self.old id.offset time command.now).replies) }
         ensures fits { OnOk result (FitsCount (id.offset + 1) self.new) }
     {
-        self.apply_at(id.offset, time, command)
+        if !self.whole {
+            return Err(NoMemory);
+        }
+        self.whole = false;
+        let replies = self.parts.apply(id.offset, time, command)?;
+        self.whole = true;
+        Ok(ShardReply { ops: replies })
     }
 
-    /// The answer to a query, which changes nothing. A get costs a look-up and a copy of the record, a list, a scan and notices
-    /// cost their page.
+    /// The answer to a query, which changes nothing. A get costs a look-up and a copy of the record, by an index one look-up
+    /// more; a list, a scan and notices cost their page.
     pub fn ask(&self, query: &ShardQuery) -> Result<ShardAnswer, NoMemory>
-        requires { IsTrue (is_by_key query.now) }
         ensures { IfOk result (λ answer. answer ≡ answer_to self.now query.now) }
     {
-        self.answer(query)
+        if !self.whole {
+            return Err(NoMemory);
+        }
+        self.parts.answer(query)
+    }
+
+    /// The open sessions by rising id with their timeouts (ms), at their cost.
+    pub fn timers(&self) -> Result<List<Timer>, NoMemory>
+        ensures { IfOk result (λ timers. timers ≡ map timer_of self.now.sessions) }
+    {
+        self.parts.lists.sessions.timers()
     }
 }

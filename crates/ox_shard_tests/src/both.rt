@@ -1,115 +1,168 @@
-// One command, or one query, at both.
-ghost use Rattle.std.specs.Prelude.{◌+◌, ◌<◌, OnOk};
-ghost use Rattle.ox_shard.specs.Fits.{FitsCount};
+// The machine and the plain program, side by side.
+ghost use Rattle.std.specs.Prelude.{◌+◌, ◌<◌, ◌≡◌, false, None, IsTrue, IfOk, OnOk};
+ghost use Rattle.ox_ops.specs.Check.{command_fault};
+ghost use Rattle.ox_ops.specs.Forms.{command as command_form};
+ghost use Rattle.ox_shard.specs.Fits.{FitsCount, is_expire};
 
-use ox_ops::{NoticeItem, OpReply, Record, ShardAnswer, check, decode_command, decode_query};
+use crate::row::{Row, command_bytes};
+use ox_ops::{
+    Compare, Hi, KeyRange, Lo, ShardAnswer, ShardCommand, ShardQuery, ShardReply, check,
+    decode_command,
+};
 use ox_plain::{Plain, fits};
-use ox_shard::{ShardMachine, is_answered, is_taken};
-use ox_types::{EntryId, Key, Term};
+use ox_shard::{ShardMachine, is_expiry};
+use ox_types::{EntryId, Key, Octets, Term};
 use std::alloc::Global;
 use std::test::Fail;
 
-fn is_same_reply(a: &OpReply, b: &OpReply) -> bool {
-    match (a, b) {
-        (OpReply::Put { key, meta }, OpReply::Put { key: k, meta: m }) => key == k && meta == m,
-        (OpReply::Deleted, OpReply::Deleted) => true,
-        (OpReply::Ranged { removed }, OpReply::Ranged { removed: n }) => removed == n,
-        (OpReply::KeyNotFound, OpReply::KeyNotFound) => true,
-        (OpReply::UnexpectedVersion { found }, OpReply::UnexpectedVersion { found: n }) => {
-            found == n
-        }
-        (OpReply::SequenceSpent { group }, OpReply::SequenceSpent { group: n }) => group == n,
-        _ => false,
-    }
-}
-
-fn are_same_replies(a: &[OpReply], b: &[OpReply]) -> bool {
-    if a.len() != b.len() {
-        return false;
-    }
-    for (x, y) in a.iter().zip(b) {
-        if !is_same_reply(x, y) {
-            return false;
-        }
-    }
-    true
-}
-
-/// The command of these bytes at both, as the entry at this offset.
-pub fn run(
+/// Both shards.
+#[derive(Drop)]
+pub struct Both {
     alloc: Global,
-    machine: &mut ShardMachine,
-    plain: &mut Plain,
-    offset: u64,
-    bytes: &[u8],
-) -> Result<(), Fail>
-    requires fits { FitsCount offset machine.old }
-    requires few { offset < 1000 }
-    ensures fits { OnOk result (FitsCount (offset + 1) machine.new) }
-{
-    let command = decode_command(alloc, bytes)?;
-    if !is_taken(&command) || check(alloc, &command)?.is_some() {
-        return Err(Fail::from("no such command"));
+    machine: ShardMachine,
+    plain: Plain,
+}
+
+fn is_same_reply(alloc: Global, a: &ShardReply, b: &ShardReply) -> Result<bool, Fail> {
+    let told = format!(in alloc; "{a:?}")?;
+    let wanted = format!(in alloc; "{b:?}")?;
+    Ok(told.as_str() == wanted.as_str())
+}
+
+fn is_same_answer(alloc: Global, a: &ShardAnswer, b: &ShardAnswer) -> Result<bool, Fail> {
+    let told = format!(in alloc; "{a:?}")?;
+    let wanted = format!(in alloc; "{b:?}")?;
+    Ok(told.as_str() == wanted.as_str())
+}
+
+fn key(alloc: Global, text: &str) -> Result<Key, Fail> {
+    Ok(Key::try_new(Vec::from_slice(alloc, text.as_bytes())?)?)
+}
+
+fn whole() -> KeyRange {
+    KeyRange {
+        lo: Lo::Start,
+        hi: Hi::End,
     }
-    if !fits(&command) || plain.next_version() > 10_000 {
-        return Err(Fail::from("no room"));
+}
+
+fn between(alloc: Global, low: &str, high: &str) -> Result<KeyRange, Fail> {
+    let lo = Lo::Past(key(alloc, low)?);
+    let hi = Hi::Before(key(alloc, high)?);
+    Ok(KeyRange { lo, hi })
+}
+
+/// The index of the tables.
+fn index(alloc: Global) -> Result<Octets, Fail> {
+    Ok(Octets::from_slice(alloc, b"i")?)
+}
+
+impl Both {
+    pub fn start(alloc: Global) -> Result<Both, Fail>
+        ensures { IfOk result (λ both. FitsCount 0 both.machine) }
+    {
+        let machine = ShardMachine::empty(alloc)?;
+        let plain = Plain::empty(alloc)?;
+        Ok(Both {
+            alloc,
+            machine,
+            plain,
+        })
     }
-    let term = Term(1);
-    let told = machine.apply(EntryId { term, offset }, 0, &command)?;
-    let wanted = plain.apply(offset, 0, &command)?;
-    if !are_same_replies(told.ops.as_slice(), wanted.ops.as_slice()) {
-        return Err(Fail::from("other replies"));
-    }
-    Ok(())
-}
 
-fn are_same_keys(a: &[Key], b: &[Key]) -> bool {
-    a.len() == b.len() && a.iter().zip(b).all(|(x, y)| x == y)
-}
-
-fn is_same_record(a: &Record, b: &Record) -> bool {
-    a.key == b.key && a.value.bytes() == b.value.bytes() && a.meta == b.meta
-}
-
-fn are_same_records(a: &[Record], b: &[Record]) -> bool {
-    a.len() == b.len() && a.iter().zip(b).all(|(x, y)| is_same_record(x, y))
-}
-
-fn are_same_notices(a: &[NoticeItem], b: &[NoticeItem]) -> bool {
-    a.len() == b.len() && a.iter().zip(b).all(|(x, y)| x.offset == y.offset)
-}
-
-fn is_same_answer(a: &ShardAnswer, b: &ShardAnswer) -> bool {
-    match (a, b) {
-        (ShardAnswer::Got(None), ShardAnswer::Got(None)) => true,
-        (ShardAnswer::Got(Some(x)), ShardAnswer::Got(Some(y))) => is_same_record(x, y),
-        (ShardAnswer::Keys { keys, more }, ShardAnswer::Keys { keys: k, more: m }) => {
-            more == m && are_same_keys(keys.as_slice(), k.as_slice())
+    /// The row's command at both, as the entry at this offset and time (ms).
+    pub fn run(&mut self, offset: u64, time: u64, row: Row<'_>) -> Result<(), Fail>
+        requires fits { FitsCount offset self.old.machine }
+        requires few { offset < 10000 }
+        ensures { OnOk result (FitsCount (offset + 1) self.new.machine) }
+    {
+        let bytes = command_bytes(self.alloc, row)?;
+        let command = decode_command(self.alloc, &bytes)?;
+        if !is_expiry(&command) && check(self.alloc, &command)?.is_some() {
+            return Err(Fail::from("a command at fault"));
         }
-        (
-            ShardAnswer::Records { records, more },
-            ShardAnswer::Records {
-                records: r,
-                more: m,
-            },
-        ) => more == m && are_same_records(records.as_slice(), r.as_slice()),
-        (ShardAnswer::Notices { items, more }, ShardAnswer::Notices { items: i, more: m }) => {
-            more == m && are_same_notices(items.as_slice(), i.as_slice())
-        }
-        _ => false,
+        self.apply(offset, time, &command)
     }
-}
 
-/// The query of these bytes at both.
-pub fn ask(alloc: Global, machine: &ShardMachine, plain: &Plain, bytes: &[u8]) -> Result<(), Fail> {
-    let query = decode_query(alloc, bytes)?;
-    if !is_answered(&query) {
-        return Err(Fail::from("no such query"));
+    fn apply(&mut self, offset: u64, time: u64, command: &ShardCommand) -> Result<(), Fail>
+        requires fits { FitsCount offset self.old.machine }
+        requires few { offset < 10000 }
+        requires lawful { IsTrue (command_form.is_lawful command.now) }
+        requires faultless { is_expire command.now ≡ false → command_fault command.now ≡ None }
+        ensures { OnOk result (FitsCount (offset + 1) self.new.machine) }
+    {
+        if !fits(command) || self.plain.next_version() > 10_000 {
+            return Err(Fail::from("no room"));
+        }
+        let term = Term(1);
+        let told = self.machine.apply(EntryId { term, offset }, time, command)?;
+        let wanted = self.plain.apply(offset, time, command)?;
+        if !is_same_reply(self.alloc, &told, &wanted)? {
+            return Err(Fail::from("another reply"));
+        }
+        Ok(())
     }
-    let told = machine.ask(&query)?;
-    let wanted = plain.ask(&query)?;
-    if !is_same_answer(&told, &wanted) {
-        return Err(Fail::from("another answer"));
+
+    fn ask(&self, query: &ShardQuery) -> Result<(), Fail> {
+        let told = self.machine.ask(query)?;
+        let wanted = self.plain.ask(query)?;
+        if !is_same_answer(self.alloc, &told, &wanted)? {
+            return Err(Fail::from("another answer"));
+        }
+        Ok(())
     }
-    Ok(())
+
+    /// All lists, scans and notices.
+    pub fn ask_pages(&self) -> Result<(), Fail> {
+        let by = None;
+        self.ask(&ShardQuery::List { range: whole(), by })?;
+        let by = None;
+        self.ask(&ShardQuery::Scan { range: whole(), by })?;
+        let by = Some(index(self.alloc)?);
+        self.ask(&ShardQuery::List { range: whole(), by })?;
+        let by = Some(index(self.alloc)?);
+        let range = between(self.alloc, "s1", "s3")?;
+        self.ask(&ShardQuery::Scan { range, by })?;
+        self.ask(&ShardQuery::Notices { after: 0, skip: 0 })?;
+        self.ask(&ShardQuery::Notices { after: 2, skip: 1 })
+    }
+
+    /// What each comparison finds at a key, and at a secondary key.
+    pub fn ask_gets(&self, text: &str, second: &str) -> Result<(), Fail> {
+        for compare in [
+            Compare::Equal,
+            Compare::Floor,
+            Compare::Ceiling,
+            Compare::Lower,
+            Compare::Higher,
+        ] {
+            let by = None;
+            let at = key(self.alloc, text)?;
+            self.ask(&ShardQuery::Get {
+                compare,
+                key: at,
+                by,
+            })?;
+            let by = Some(index(self.alloc)?);
+            let at = key(self.alloc, second)?;
+            self.ask(&ShardQuery::Get {
+                compare,
+                key: at,
+                by,
+            })?;
+        }
+        Ok(())
+    }
+
+    /// Whether the sessions 0 to 2 are open.
+    pub fn ask_sessions(&self) -> Result<(), Fail> {
+        self.ask(&ShardQuery::KeepAlive { session: 0 })?;
+        self.ask(&ShardQuery::KeepAlive { session: 1 })?;
+        self.ask(&ShardQuery::KeepAlive { session: 2 })
+    }
+
+    /// How many sessions are open.
+    pub fn timers(&self) -> Result<usize, Fail> {
+        Ok(self.machine.timers()?.len())
+    }
 }

@@ -4,4 +4,6 @@
 #[cfg(test)]
 mod both;
 #[cfg(test)]
+mod row;
+#[cfg(test)]
 mod tests;
