@@ -13,6 +13,7 @@ use Rattle.ox_journal.specs.Pair.{IsHalf, Older, IsOpen, IsReading, LeavesPairs,
 use Rattle.ox_journal.specs.declared.head.Head.{Head}
 use Rattle.ox_journal.specs.declared.head.Head.TheVariants.{Dead, Bad, Round}
 use Rattle.ox_journal.specs.declared.head.Choice.TheVariants.{Neither, Damaged, Live}
+use Rattle.ox_journal.proofs.Steps.{started}
 use Rattle.ox_journal.proofs.Switching.{half_head}
 
 if_range : (a : Bool) (x : Head) → RoundsInRange x → RoundsInRange (if a then x else Dead)
@@ -198,6 +199,9 @@ module _ (first second : Shown) (none : IsUnformatted first second) where
     now = λ c d at_c at_d. subst (λ s. UnformattedOrEmpty c s) (sym (none.two_synced d at_d)) (pair_of c (inl (ap head_of (none.one_synced c at_c) ∙ dead_first)));
     each = λ c d at_c at_d. subst (λ s. UnformattedOrEmpty c s) (sym (none.two_synced d at_d)) (pair_of c (inl (ap head_of (none.one_synced c at_c) ∙ dead_first)));
   }
+
+  pub untouched_first : LeavesOnly first first DeadOrMade
+  untouched_first = started DeadOrMade first none.one_synced (inl dead_first)
 
   pub create_open : (new : Shown) → IsHalf 0 [] new.seen × IsSynced new → IsOpen new second 0 10 []
   create_open new made = record { half = made.0; place = length-front-empty 0; synced = made.1; aside = inl (none.two_synced, inl dead_second) }

@@ -1,5 +1,5 @@
 // Reading the records of a journal.
-ghost use Rattle.std.specs.Prelude.{◌≡◌, ◌≢◌, ◌⊎◌, ◌≤◌, ℕ, List, [], ◌∷◌, ◌++◌, drop, Ok, Err, Some, None, IfOk, IfErr, IsErrOf, IfSome};
+ghost use Rattle.std.specs.Prelude.{◌≡◌, ◌≢◌, ◌⊎◌, ◌≤◌, ℕ, List, [], ◌∷◌, ◌++◌, ◌+◌, length, drop, Ok, Err, Some, None, IfOk, IfErr, IsErrOf, IfSome};
 ghost use Rattle.ox_outside.specs.Causes.{Rose};
 ghost use Rattle.ox_outside.specs.Disk.{Quiet};
 ghost use Rattle.ox_journal.specs.Next.{next_of};
@@ -45,6 +45,7 @@ impl<D: Disk> Journal<D> {
         ensures spare { self.new.spare ≡ self.old.spare }
         ensures same { (self.new.half ≡ self.old.half) × (self.new.round ≡ self.old.round) }
         ensures rewrite { (self.new.filled ≡ self.old.filled) × (self.new.left ≡ self.old.left) × (self.new.buffer.items ≡ self.old.buffer.items) }
+        ensures end { IfOk result (λ given. IfSome given (λ payload. self.new.end ≡ self.old.end + (length payload + 5))) }
         ensures state_some { IfOk result (λ given. IfSome given (λ payload. (self.old.state ≡ Reading) × (self.new.state ≡ Reading))) }
         ensures state_none { result ≡ Ok None → self.old.state ≡ Reading → self.new.state ≡ Open }
         ensures state_fault { IsErrOf result DiskFault → self.new.state ≡ Broken }

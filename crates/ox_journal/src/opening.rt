@@ -1,7 +1,8 @@
 // Making a journal, and recovering one.
 ghost use Rattle.std.specs.Prelude.{◌≡◌, ◌⊎◌, ◌≤◌, ℕ, List, [], IfOk, IfErr};
 ghost use Rattle.ox_outside.specs.Causes.{Rose};
-ghost use Rattle.ox_journal.specs.Made.{UnformattedOrEmpty};
+ghost use Rattle.ox_outside.specs.Disk.{LeavesOnly};
+ghost use Rattle.ox_journal.specs.Made.{DeadOrMade, UnformattedOrEmpty};
 ghost use Rattle.ox_journal.specs.Opening.{chosen, BothQuiet, Recovered, IsUnformatted};
 ghost use Rattle.ox_journal.specs.Pair.{IsHalf, Holds, IsOpen, LeavesPairs};
 ghost use Rattle.ox_journal.specs.declared.state.State.TheVariants.{Open, Reading};
@@ -32,6 +33,10 @@ impl<D: Disk> Journal<D> {
             LeavesPairs (D.shows first) (D.shows second) (D.shows j.live) (D.shows j.spare) UnformattedOrEmpty) }
         ensures any_moment_err { D.tells → IfErr result (λ e.
             LeavesPairs (D.shows first) (D.shows second) (D.shows e.1) (D.shows e.2) UnformattedOrEmpty) }
+        ensures live { D.tells → IfOk result (λ j. LeavesOnly (D.shows first) (D.shows j.live) DeadOrMade) }
+        ensures live_err { D.tells → IfErr result (λ e. LeavesOnly (D.shows first) (D.shows e.1) DeadOrMade) }
+        ensures spare { IfOk result (λ j. j.spare ≡ second) }
+        ensures spare_err { IfErr result (λ e. e.2 ≡ second) }
         ensures cause { IfErr result (λ e. (e.0 ≡ NoMemory) ⊎ ((e.0 ≡ DiskFault) × Rose (D.faults first) (D.faults e.1))) }
         ensures later { IfOk result (λ j. (D.faults first ≤ D.faults j.live) × (D.faults second ≤ D.faults j.spare)) }
         ensures later_err { IfErr result (λ e. (D.faults first ≤ D.faults e.1) × (D.faults second ≤ D.faults e.2)) }

@@ -1,0 +1,9 @@
+pub mod EntrySize
+pub mod Following
+pub mod Drafts
+pub mod Folding
+pub mod Batches
+pub mod Crashes
+pub mod TermRuns
+pub mod Recovering
+pub mod Restarts
