@@ -34,6 +34,7 @@ use Rattle.ox_meaning.specs.OperationLaws.{IsKept, IsBeside, IsDone, closed_repl
 use Rattle.ox_meaning.specs.Shard.{shard_meaning}
 use Rattle.ox_meaning.specs.ReadLaws.{write_none}
 
+-- a reply and a notice that can be written
 abbrev LawfulReply : OpReply → Type 0
 LawfulReply r = op_reply.is_lawful r ≡ true
 
@@ -81,7 +82,6 @@ module _ {A : Type 0} (op : ShardState → A → Effect) (Good : A → Type 0) (
   each_run a (x ∷ xs) good run room =
       let was = run.versions in
       let done = step a.state x run.kept (omega arith) (All-head Good x xs good) in
-      let e : Effect = op a.state x in
       let more : length (a.replies ++ (op a.state x).reply ∷ []) ≡ length a.replies + 1 = length-append a.replies ((op a.state x).reply ∷ []) in
       let rest = each_run (and_then a (op a.state x)) xs (All-tail Good x xs good) (then_run s a (op a.state x) run done) (omega arith) in
       let count = rest.counted in
@@ -107,6 +107,7 @@ record GoodBatch (b : WriteBatch) : Type 0 where
   ranges : All (λ (r : KeyRange). IsTrue (key_range.is_lawful r)) b.ranges
   few : operations_in b ≤ 1000
 
+-- a lawful batch
 record BatchParts (b : WriteBatch) : Type 0 where
   puts : list_all put.is_lawful b.puts ≡ true
   deletes : list_all delete.is_lawful b.deletes ≡ true
@@ -133,6 +134,7 @@ good_batch b h free =
       few = ltb-false 1000 (operations_in b) many.1;
     }
 
+-- a state before any operation
 abbrev begun : ShardState → Applied
 begun s = record { state = s; replies = []; notices = [] }
 
@@ -142,7 +144,6 @@ begun_run s kept = record { kept = kept; versions = omega arith; beside = record
 batch_run : (s : ShardState) (b : WriteBatch) → IsKept s → s.next_version + 1000 ≤ 2 ^ 63 → GoodBatch b → HasRun s (batch_on s b) (operations_in b)
 batch_run s b kept room good =
     let few = good.few in
-    let a : Applied = each_on put_on (begun s) b.puts in
     let puts = each_run put_on GoodPut (λ t x k small g. put_done t x k small g.lawful g.faultless) s (begun s) b.puts good.puts (begun_run s kept) (omega arith) in
     let n : length (each_on put_on (begun s) b.puts).replies ≡ length b.puts = puts.counted ∙ zero_plus (length b.puts) in
     let deletes = each_run delete_on (λ (d : Delete). IsTrue (delete.is_lawful d)) (λ t x k small g. delete_done t x k g) s (each_on put_on (begun s) b.puts) b.deletes good.deletes puts.run (omega arith) in
@@ -244,7 +245,6 @@ open_applied s at timeout small kept seated = elim (cases_Bool (leb (state_weigh
 
 closed_applied : (s : ShardState) (at id : ℕ) → IsKept s → IsSeated at s.sessions → IsApplied s at (closed s id)
 closed_applied s at id kept seated =
-    let members : List Record = filter (is_member id) s.records in
     let less = sum-filter-le record_weight (λ r. not (is_member id r)) s.records in
     let fewer = length-filter_both (λ (x : Session). not (x.id == id)) (λ (x : Session). not (not (x.id == id))) (λ x. refl) s.sessions in
     let was = kept.weight in

@@ -33,6 +33,9 @@ pub enum Row<'a> {
 pub const NONE: u64 = u64::MAX;
 
 fn add_text(bytes: &mut Vec<u8>, text: &str) -> Result<(), Fail> {
+    if text.len() > 4096 {
+        return Err(Fail::from("too long a text"));
+    }
     bytes.extend_from_slice(&(text.len() as u32).to_be_bytes())?;
     bytes.extend_from_slice(text.as_bytes())?;
     Ok(())

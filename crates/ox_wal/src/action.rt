@@ -142,7 +142,9 @@ fn actions_in(alloc: Global, steps: List<Step>) -> Result<List<Action>, NoMemory
 
 /// The actions that the bytes are the text of.
 pub fn decode_actions(alloc: Global, bytes: &[u8]) -> Result<List<Action>, FieldFault>
-    ensures { Tells result (whole_of actions bytes.now) }
+    // What is read is lawful, and the bytes are its text.
+    ensures found { IfOk result (λ batch. IsTrue (actions.is_lawful batch) × (bytes.now ≡ actions.text batch)) }
+    ensures exact { Tells result (whole_of actions bytes.now) }
 {
     let steps: List<Step> = decode(alloc, bytes)?;
     Ok(actions_in(alloc, steps)?)

@@ -11,10 +11,10 @@ ghost use Rattle.ox_wal.specs.Files.{BeforeOrBehind, Keeps};
 ghost use Rattle.ox_wal.specs.State.{state_of, drafted, IsDraft};
 ghost use Rattle.ox_wal.specs.declared.fault.CommitFault.TheVariants.{LogFull, DiskFault, NoMemory};
 
+use crate::action::encode_actions;
 use crate::draft::{Draft, DraftFault};
 use crate::fault::CommitFault;
 use crate::wal::Wal;
-use crate::action::encode_actions;
 use ox_journal::State;
 use ox_outside::Disk;
 use ox_types::{Action, Octets};

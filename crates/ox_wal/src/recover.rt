@@ -113,7 +113,8 @@ impl<D: Disk> Wal<D> {
             × (e.0 ≡ DiskFault → Rose (D.faults journal.live) (D.faults e.1)) × (D.tells → Quiet (D.shows journal.live) (D.shows e.1))) }
         ensures one { IfErr result (λ e. journal.half ≡ 1 → (e.1 ≡ journal.spare) × (D.faults journal.live ≤ D.faults e.2)
             × (e.0 ≡ DiskFault → Rose (D.faults journal.live) (D.faults e.2)) × (D.tells → Quiet (D.shows journal.live) (D.shows e.2))) }
-        ensures later { IfOk result (λ w. D.faults journal.live ≤ D.faults w.journal.live) }
+        ensures later { IfOk result (λ w. (w.journal.half ≡ journal.half) × (w.journal.spare ≡ journal.spare)
+            × (D.faults journal.live ≤ D.faults w.journal.live)) }
     {
         let mut journal = journal;
         match read_all(alloc, &mut journal) {
@@ -135,8 +136,8 @@ impl<D: Disk> Wal<D> {
         ensures left { D.tells → IfOk result (λ w. (w.journal.spare ≡ second) × LeavesOnly (D.shows first) (D.shows w.journal.live) DeadOrMade) }
         ensures left_err { D.tells → IfErr result (λ e. (e.2 ≡ second) × LeavesOnly (D.shows first) (D.shows e.1) DeadOrMade) }
         ensures cause { IfErr result (λ e. e.0 ≡ DiskFault → Rose (D.faults first) (D.faults e.1)) }
-        ensures later { IfOk result (λ w. D.faults first ≤ D.faults w.journal.live) }
-        ensures later_err { IfErr result (λ e. D.faults first ≤ D.faults e.1) }
+        ensures later { IfOk result (λ w. (w.journal.half ≡ 0) × (w.journal.spare ≡ second) × (D.faults first ≤ D.faults w.journal.live)) }
+        ensures later_err { IfErr result (λ e. (e.2 ≡ second) × (D.faults first ≤ D.faults e.1)) }
     {
         match Journal::create(alloc, first, second) {
             Ok(journal) => Ok(Wal {
@@ -181,6 +182,9 @@ impl<D: Disk> Wal<D> {
         ensures any_moment_err { (state : DurableState) → D.tells → StandFor (D.shows first) (D.shows second) state
             → IfErr result (λ e. LeavesPairs (D.shows first) (D.shows second) (D.shows e.1) (D.shows e.2) (λ c d. Stands c d state)) }
         ensures cause { IfErr result (λ e. e.0 ≡ DiskFault → Rose (D.faults first) (D.faults e.1) ⊎ Rose (D.faults second) (D.faults e.2)) }
+        ensures later_zero { IfOk result (λ w. w.journal.half ≡ 0 → (D.faults first ≤ D.faults w.journal.live) × (D.faults second ≤ D.faults w.journal.spare)) }
+        ensures later_one { IfOk result (λ w. w.journal.half ≡ 1 → (D.faults second ≤ D.faults w.journal.live) × (D.faults first ≤ D.faults w.journal.spare)) }
+        ensures later_err { IfErr result (λ e. (D.faults first ≤ D.faults e.1) × (D.faults second ≤ D.faults e.2)) }
     {
         match Journal::recover(alloc, first, second) {
             Ok(journal) => Wal::replay(alloc, journal, blocks),

@@ -10,10 +10,10 @@ ghost use Rattle.ox_wal.specs.State.{state_of};
 ghost use Rattle.ox_wal.specs.declared.draft.DraftFault.TheVariants.{Unlawful};
 ghost use Rattle.ox_wal.specs.declared.fault.WalFault.TheVariants.{Damaged, NoMemory};
 
+use crate::action::decode_actions;
 use crate::draft::DraftFault;
 use crate::fault::WalFault;
 use crate::log::Log;
-use crate::action::decode_actions;
 use ox_bytes::{FieldFault, SAVED_LIMIT};
 use ox_types::{Action, Head, Octets, Seat, Term};
 use std::alloc::Global;

@@ -1,75 +1,100 @@
 -- What an acknowledgement and a read say of the world before their event, and the clauses of a legal run.
-use Rattle.std.proofs.Common.{◌≡◌, ◌≢◌, ◌∙◌, ℕ, zero, suc, ◌+◌, ◌<◌, ◌≤◌, List, [], ◌∷◌, ◌++◌, length, take, slice_get, Option, Some, None, option_and_then, ◌⊎◌, inl, inr, refl, sym, ap, subst, arith, add-one}
+use Rattle.std.proofs.Common.{◌≡◌, ◌≢◌, ◌∙◌, ℕ, zero, suc, ◌+◌, ◌<◌, ◌≤◌, List, [], ◌∷◌, length, take, slice_get, Option, Some, None, ◌⊎◌, inl, inr, refl, sym, ap, subst, arith, add-one}
 use Rattle.std.proofs.Math.Seq.{take-append_seam, take-length}
 use Rattle.std.proofs.lemmas.Grind.{common_steps}
-use Rattle.oxia_top.specs.declared.ops.Command.{Command}
-use Rattle.oxia_top.specs.declared.ops.Query.{Query}
-use Rattle.oxia_top.specs.declared.ops.Reply.{Reply}
-use Rattle.oxia_top.specs.declared.ops.Answer.{Answer}
-use Rattle.oxia_top.specs.declared.schedule.Request.{Request}
-use Rattle.oxia_top.specs.declared.schedule.Request.TheVariants.{Write, Read}
-use Rattle.oxia_top.specs.declared.schedule.Event.{Event}
-use Rattle.oxia_top.specs.declared.schedule.Event.TheVariants.{Client}
-use Rattle.oxia_top.specs.declared.leader.Body.TheVariants as body
+use Rattle.ox_ops.specs.declared.write.ShardCommand.{ShardCommand}
+use Rattle.ox_ops.specs.declared.query.ShardQuery.{ShardQuery}
+use Rattle.ox_ops.specs.declared.reply.ShardReply.{ShardReply}
+use Rattle.ox_ops.specs.declared.answer.ShardAnswer.{ShardAnswer}
+use Rattle.ox_types.specs.declared.bad.Bad.{Bad}
+use Rattle.ox_types.specs.declared.refusal.Refusal.{Refusal}
+use Rattle.ox_types.specs.declared.refusal.Refusal.TheVariants.{BadRequest}
+use Rattle.ox_schedule.specs.declared.schedule.Grouping.{Grouping}
+use Rattle.ox_schedule.specs.declared.schedule.Request.{Request}
+use Rattle.ox_schedule.specs.declared.schedule.Request.TheVariants.{Write, Read}
+use Rattle.ox_schedule.specs.declared.schedule.Event.{Event}
+use Rattle.ox_schedule.specs.declared.schedule.Event.TheVariants.{Client}
 use Rattle.oxia_top.specs.declared.leader.Entry.{Entry}
 use Rattle.oxia_top.specs.declared.leader.Outcome.{Outcome}
 use Rattle.oxia_top.specs.declared.leader.Outcome.TheVariants as outcome
 use Rattle.oxia_top.specs.declared.world.Cause.{Cause}
 use Rattle.oxia_top.specs.declared.world.Cause.TheVariants as cause
 use Rattle.oxia_top.specs.declared.world.Origin.{Origin}
+use Rattle.oxia_top.specs.declared.world.Effect.{Effect}
 use Rattle.oxia_top.specs.declared.world.Effect.TheVariants.{Answered}
-use Rattle.oxia_top.specs.Meaning.{Meaning, id_of, state_after, reply_at, reply_to, answer_after}
-use Rattle.oxia_top.specs.Leader.{Replica, entry_of, pass_entry}
-use Rattle.oxia_top.specs.World.{World, happens, history_of, replica_of, opening_world, origin_of}
-use Rattle.oxia_top.specs.Moments.{Begins, Has, world_at, history_at, replica_at, Shows, ComesAs, CameBefore, Acks, Reads, IsFrom}
-use Rattle.oxia_top.specs.Legal.{StandsInHistory, IsAcknowledgedInPlace, RepliesMatch, IsCaused, EntriesHaveCauses, IsRead, ReadsMatch, Agrees, ReplicasAgree, IsLegal}
+use Rattle.oxia_top.specs.Meaning.{Meaning, id_of, state_after, reply_at, answer_after}
+use Rattle.oxia_top.specs.Leader.{Replica, entry_of, pass_entry, unless_at_fault}
+use Rattle.oxia_top.specs.World.{World, comes, happens, opening_world, origin_of}
+use Rattle.oxia_top.specs.Moments.{Begins, world_at, history_at, replica_at, CameBefore, Acks, Reads, IsFrom}
+use Rattle.oxia_top.specs.Legal.{StandsInHistory, RepliesMatch, IsCaused, ReadsMatch, IsRefused, RefusalsAreTrue, Agrees, IsLegal}
 use Rattle.oxia_top.proofs.OriginLemmas.{get_last, get_within, get_some, get_more}
-use Rattle.oxia_top.proofs.LegalLemmas.{IsSound, AtShardZero, new_entry, new_origin, written, counted, write_is, read_is, at_next, at_end, at_first, sound_at, begins_later, longer_later, arrivals_later, arrivals_next}
+use Rattle.oxia_top.proofs.LegalLemmas.{AtShardZero, new_entry, new_origin, written, counted, write_is, refused_is, read_is, at_next, at_end, at_first, sound_at, begins_later, longer_later, arrivals_later, arrivals_next}
 
 answer_is : (a b : ℕ) (x y : Outcome) → Answered a x ≡ Answered b y → (a ≡ b) × (x ≡ y)
 answer_is a b x y e = (cc, cc)
 
 module _ {S : Type 0} (M : Meaning S) where
-  -- an acknowledgement is the third effect of a write
-  pub record AckIs (w : World S) (r : Request) (j a t o : ℕ) (reply : Reply) : Type 0 where
-    pub command : Command
-    pub is : r ≡ Write command
+  -- an acknowledgement is the third effect of a write without a fault
+  pub record AckIs (w : World S) (r : Request) (j a t o : ℕ) (reply : ShardReply) : Type 0 where
+    pub grouping : Grouping
+    pub command : ShardCommand
+    pub is : r ≡ Write grouping command
+    pub faultless : M.fault command ≡ None
     pub place : j ≡ 2
     pub arrival : a ≡ w.arrivals + 1
     pub term : t ≡ w.replica.term
     pub offset : o ≡ length w.replica.log
     pub reply_is : reply ≡ M.reply w.replica.value (id_of (entry_of M w.replica command)) w.replica.clock command
 
-  ack_parts : (t o t' o' : ℕ) (r r' : Reply) → outcome.Ack t o r ≡ outcome.Ack t' o' r' → (t ≡ t') × (o ≡ o') × (r ≡ r')
+  ack_parts : (t o t' o' : ℕ) (r r' : ShardReply) → outcome.Ack t o r ≡ outcome.Ack t' o' r' → (t ≡ t') × (o ≡ o') × (r ≡ r')
   ack_parts t o t' o' r r' e = (cc, cc, cc)
 
-  ack_is : (w : World S) (n s : ℕ) (r : Request) (j a t o : ℕ) (reply : Reply) → slice_get (happens M w (Client n s r)).effects j ≡ Some (Answered a (outcome.Ack t o reply)) → AckIs w r j a t o reply
-  unfolding happens
-  ack_is w n s (Write c) zero a t o reply h = absurd cc
-  ack_is w n s (Write c) (suc zero) a t o reply h = absurd cc
-  ack_is w n s (Write c) (suc (suc zero)) a t o reply h =
-      let e : Answered (w.arrivals + 1) (outcome.Ack w.replica.term (length w.replica.log) (M.reply w.replica.value (id_of (entry_of M w.replica c)) w.replica.clock c)) ≡ Answered a (outcome.Ack t o reply) = cc in
-      let p = answer_is _ _ _ _ e in
+  -- what is seen where a command comes that has this fault or none
+  abbrev write_effects : World S → ℕ → ShardCommand → Option Bad → List Effect
+  write_effects w s c f = (comes w s (w.arrivals + 1) (unless_at_fault M w.replica c f)).effects
+
+  ack_of : (w : World S) (s : ℕ) (g : Grouping) (c : ShardCommand) (f : Option Bad) (j a t o : ℕ) (reply : ShardReply) → M.fault c ≡ f → slice_get (write_effects w s c f) j ≡ Some (Answered a (outcome.Ack t o reply)) → AckIs w (Write g c) j a t o reply
+  ack_of w s g c None zero a t o reply e h = absurd cc
+  ack_of w s g c None (suc zero) a t o reply e h = absurd cc
+  ack_of w s g c None (suc (suc zero)) a t o reply e h =
+      let told : Answered (w.arrivals + 1) (outcome.Ack w.replica.term (length w.replica.log) (M.reply w.replica.value (id_of (entry_of M w.replica c)) w.replica.clock c)) ≡ Answered a (outcome.Ack t o reply) = cc in
+      let p = answer_is _ _ _ _ told in
       let q = ack_parts _ _ _ _ _ _ p.1 in
-      record { command = c; is = refl; place = refl; arrival = sym p.0; term = sym q.0; offset = sym q.1; reply_is = sym q.2 }
-  ack_is w n s (Write c) (suc (suc (suc j))) a t o reply h = absurd cc
+      record { grouping = g; command = c; is = refl; faultless = e; place = refl; arrival = sym p.0; term = sym q.0; offset = sym q.1; reply_is = sym q.2 }
+  ack_of w s g c None (suc (suc (suc j))) a t o reply e h = absurd cc
+  ack_of w s g c (Some bad) zero a t o reply e h = absurd cc
+  ack_of w s g c (Some bad) (suc zero) a t o reply e h = absurd cc
+  ack_of w s g c (Some bad) (suc (suc j)) a t o reply e h = absurd cc
+
+  ack_is : (w : World S) (n s : ℕ) (r : Request) (j a t o : ℕ) (reply : ShardReply) → slice_get (happens M w (Client n s r)).effects j ≡ Some (Answered a (outcome.Ack t o reply)) → AckIs w r j a t o reply
+  unfolding happens
+  ack_is w n s (Write g c) j a t o reply h = ack_of w s g c (M.fault c) j a t o reply refl h
   ack_is w n s (Read q) zero a t o reply h = absurd cc
   ack_is w n s (Read q) (suc zero) a t o reply h = absurd cc
   ack_is w n s (Read q) (suc (suc j)) a t o reply h = absurd cc
 
   -- an answer to a read is the second effect of it
-  pub record ReadIs (w : World S) (r : Request) (j a t p : ℕ) (answer : Answer) : Type 0 where
-    pub query : Query
+  pub record ReadIs (w : World S) (r : Request) (j a t p : ℕ) (answer : ShardAnswer) : Type 0 where
+    pub query : ShardQuery
     pub is : r ≡ Read query
     pub arrival : a ≡ w.arrivals + 1
     pub term : t ≡ w.replica.term
     pub prefix : p ≡ w.replica.commit
     pub answer_is : answer ≡ M.answer w.replica.value query
 
-  read_parts : (t o t' o' : ℕ) (r r' : Answer) → outcome.Read t o r ≡ outcome.Read t' o' r' → (t ≡ t') × (o ≡ o') × (r ≡ r')
+  read_parts : (t o t' o' : ℕ) (r r' : ShardAnswer) → outcome.Read t o r ≡ outcome.Read t' o' r' → (t ≡ t') × (o ≡ o') × (r ≡ r')
   read_parts t o t' o' r r' e = (cc, cc, cc)
 
-  read_of : (w : World S) (n s : ℕ) (r : Request) (j a t p : ℕ) (answer : Answer) → slice_get (happens M w (Client n s r)).effects j ≡ Some (Answered a (outcome.Read t p answer)) → ReadIs w r j a t p answer
+  no_read : (w : World S) (s : ℕ) (c : ShardCommand) (f : Option Bad) (j a t p : ℕ) (answer : ShardAnswer) → slice_get (write_effects w s c f) j ≡ Some (Answered a (outcome.Read t p answer)) → ⊥
+  no_read w s c None zero a t p answer h = absurd cc
+  no_read w s c None (suc zero) a t p answer h = absurd cc
+  no_read w s c None (suc (suc zero)) a t p answer h = absurd cc
+  no_read w s c None (suc (suc (suc j))) a t p answer h = absurd cc
+  no_read w s c (Some bad) zero a t p answer h = absurd cc
+  no_read w s c (Some bad) (suc zero) a t p answer h = absurd cc
+  no_read w s c (Some bad) (suc (suc j)) a t p answer h = absurd cc
+
+  read_of : (w : World S) (n s : ℕ) (r : Request) (j a t p : ℕ) (answer : ShardAnswer) → slice_get (happens M w (Client n s r)).effects j ≡ Some (Answered a (outcome.Read t p answer)) → ReadIs w r j a t p answer
   unfolding happens
   read_of w n s (Read q) zero a t p answer h = absurd cc
   read_of w n s (Read q) (suc zero) a t p answer h =
@@ -78,10 +103,39 @@ module _ {S : Type 0} (M : Meaning S) where
       let y = read_parts _ _ _ _ _ _ x.1 in
       record { query = q; is = refl; arrival = sym x.0; term = sym y.0; prefix = sym y.1; answer_is = sym y.2 }
   read_of w n s (Read q) (suc (suc j)) a t p answer h = absurd cc
-  read_of w n s (Write c) zero a t p answer h = absurd cc
-  read_of w n s (Write c) (suc zero) a t p answer h = absurd cc
-  read_of w n s (Write c) (suc (suc zero)) a t p answer h = absurd cc
-  read_of w n s (Write c) (suc (suc (suc j))) a t p answer h = absurd cc
+  read_of w n s (Write g c) j a t p answer h = absurd (no_read w s c (M.fault c) j a t p answer h)
+
+  -- a refusal is that of a write with a fault
+  pub record RefusalIs (w : World S) (r : Request) (a : ℕ) (refusal : Refusal) : Type 0 where
+    pub grouping : Grouping
+    pub command : ShardCommand
+    pub is : r ≡ Write grouping command
+    pub arrival : a ≡ w.arrivals + 1
+    pub bad : Bad
+    pub told : refusal ≡ BadRequest bad
+    pub fault : M.fault command ≡ Some bad
+
+  refusal_of : (w : World S) (s : ℕ) (g : Grouping) (c : ShardCommand) (f : Option Bad) (j a : ℕ) (refusal : Refusal) → M.fault c ≡ f → slice_get (write_effects w s c f) j ≡ Some (Answered a (outcome.Refused refusal)) → RefusalIs w (Write g c) a refusal
+  refusal_of w s g c None zero a refusal e h = absurd cc
+  refusal_of w s g c None (suc zero) a refusal e h = absurd cc
+  refusal_of w s g c None (suc (suc zero)) a refusal e h = absurd cc
+  refusal_of w s g c None (suc (suc (suc j))) a refusal e h = absurd cc
+  refusal_of w s g c (Some bad) zero a refusal e h = absurd cc
+  refusal_of w s g c (Some bad) (suc zero) a refusal e h =
+      let told : Answered (w.arrivals + 1) (outcome.Refused (BadRequest bad)) ≡ Answered a (outcome.Refused refusal) = cc in
+      let p = answer_is _ _ _ _ told in
+      record { grouping = g; command = c; is = refl; arrival = sym p.0; bad = bad; told = refused_is_told refusal (BadRequest bad) (sym p.1); fault = e }
+    where
+      refused_is_told : (x y : Refusal) → outcome.Refused x ≡ outcome.Refused y → x ≡ y
+      refused_is_told x y h = cc
+  refusal_of w s g c (Some bad) (suc (suc j)) a refusal e h = absurd cc
+
+  refusal_is : (w : World S) (n s : ℕ) (r : Request) (j a : ℕ) (refusal : Refusal) → slice_get (happens M w (Client n s r)).effects j ≡ Some (Answered a (outcome.Refused refusal)) → RefusalIs w r a refusal
+  unfolding happens
+  refusal_is w n s (Write g c) j a refusal h = refusal_of w s g c (M.fault c) j a refusal refl h
+  refusal_is w n s (Read q) zero a refusal h = absurd cc
+  refusal_is w n s (Read q) (suc zero) a refusal h = absurd cc
+  refusal_is w n s (Read q) (suc (suc j)) a refusal h = absurd cc
 
   module _ (es : List Event) (only : AtShardZero M es) where
     -- where a request comes, it comes to shard 0
@@ -89,10 +143,12 @@ module _ {S : Type 0} (M : Meaning S) where
     shard_is k a s r c = only c.event c.comes.node s r c.comes.here
 
     -- the event of an acknowledgement
-    pub record AckAt (k j a s t o : ℕ) (reply : Reply) : Type 0 where
+    pub record AckAt (k j a s t o : ℕ) (reply : ShardReply) : Type 0 where
       pub node : ℕ
-      pub command : Command
-      pub here : slice_get es k ≡ Some (Client node 0 (Write command))
+      pub grouping : Grouping
+      pub command : ShardCommand
+      pub here : slice_get es k ≡ Some (Client node 0 (Write grouping command))
+      pub faultless : M.fault command ≡ None
       pub shard : s ≡ 0
       pub place : j ≡ 2
       pub arrival : a ≡ (world_at M es k).arrivals + 1
@@ -100,18 +156,20 @@ module _ {S : Type 0} (M : Meaning S) where
       pub offset : o ≡ length (world_at M es k).replica.log
       pub reply_is : reply ≡ M.reply (world_at M es k).replica.value (id_of (entry_of M (world_at M es k).replica command)) (world_at M es k).replica.clock command
 
-    ack_at : (k j a s t o : ℕ) (reply : Reply) → Acks M es k j a s t o reply → AckAt k j a s t o reply
+    ack_at : (k j a s t o : ℕ) (reply : ShardReply) → Acks M es k j a s t o reply → AckAt k j a s t o reply
     ack_at k j a s t o reply h = by_event h.shown.event h.shown.here h.shown.seen
       where
         by_event : (e : Event) → slice_get es k ≡ Some e → slice_get (happens M (world_at M es k) e).effects j ≡ Some (Answered a (outcome.Ack t o reply)) → AckAt k j a s t o reply
         by_event (Client n z r) here seen =
             let x = ack_is (world_at M es k) n z r j a t o reply seen in
             let zero_shard : z ≡ 0 = only k n z r here in
-            let there : slice_get es k ≡ Some (Client n 0 (Write x.command)) = here ∙ ap (λ (q : Request). Some (Client n z q)) x.is ∙ ap (λ y. Some (Client n y (Write x.command))) zero_shard in
+            let there : slice_get es k ≡ Some (Client n 0 (Write x.grouping x.command)) = here ∙ ap (λ (q : Request). Some (Client n z q)) x.is ∙ ap (λ y. Some (Client n y (Write x.grouping x.command))) zero_shard in
             record {
               node = n;
+              grouping = x.grouping;
               command = x.command;
               here = there;
+              faultless = x.faultless;
               shard = shard_is (k + 1) a s h.request h.came;
               place = x.place;
               arrival = x.arrival;
@@ -120,9 +178,9 @@ module _ {S : Type 0} (M : Meaning S) where
               reply_is = x.reply_is;
             }
 
-    pub record ReadAt (k j a s t p : ℕ) (answer : Answer) : Type 0 where
+    pub record ReadAt (k j a s t p : ℕ) (answer : ShardAnswer) : Type 0 where
       pub node : ℕ
-      pub query : Query
+      pub query : ShardQuery
       pub here : slice_get es k ≡ Some (Client node 0 (Read query))
       pub shard : s ≡ 0
       pub arrival : a ≡ (world_at M es k).arrivals + 1
@@ -130,7 +188,7 @@ module _ {S : Type 0} (M : Meaning S) where
       pub prefix : p ≡ (world_at M es k).replica.commit
       pub answer_is : answer ≡ M.answer (world_at M es k).replica.value query
 
-    read_at : (k j a s t p : ℕ) (answer : Answer) → Reads M es k j a s t p answer → ReadAt k j a s t p answer
+    read_at : (k j a s t p : ℕ) (answer : ShardAnswer) → Reads M es k j a s t p answer → ReadAt k j a s t p answer
     read_at k j a s t p answer h = by_event h.shown.event h.shown.here h.shown.seen
       where
         by_event : (e : Event) → slice_get es k ≡ Some e → slice_get (happens M (world_at M es k) e).effects j ≡ Some (Answered a (outcome.Read t p answer)) → ReadAt k j a s t p answer
@@ -141,43 +199,47 @@ module _ {S : Type 0} (M : Meaning S) where
             record { node = n; query = x.query; here = there; shard = shard_is (k + 1) a s h.request h.came; arrival = x.arrival; term = x.term; prefix = x.prefix; answer_is = x.answer_is }
 
     -- the worlds behind a write and a read
-    behind_write : (k n : ℕ) (c : Command) → slice_get es k ≡ Some (Client n 0 (Write c)) → world_at M es (suc k) ≡ written M (world_at M es k) c
-    behind_write k n c h = at_next M es k _ h ∙ write_is M (world_at M es k) n c (sound_at M es only k)
+    behind_write : (k n : ℕ) (g : Grouping) (c : ShardCommand) → slice_get es k ≡ Some (Client n 0 (Write g c)) → M.fault c ≡ None → world_at M es (suc k) ≡ written M (world_at M es k) c
+    behind_write k n g c h e = at_next M es k _ h ∙ write_is M (world_at M es k) n g c e (sound_at M es only k)
 
-    behind_read : (k n : ℕ) (q : Query) → slice_get es k ≡ Some (Client n 0 (Read q)) → world_at M es (suc k) ≡ counted M (world_at M es k)
+    behind_refusal : (k n : ℕ) (g : Grouping) (c : ShardCommand) (bad : Bad) → slice_get es k ≡ Some (Client n 0 (Write g c)) → M.fault c ≡ Some bad → world_at M es (suc k) ≡ counted M (world_at M es k)
+    behind_refusal k n g c bad h e = at_next M es k _ h ∙ refused_is M (world_at M es k) n 0 g c bad e (sound_at M es only k)
+
+    behind_read : (k n : ℕ) (q : ShardQuery) → slice_get es k ≡ Some (Client n 0 (Read q)) → world_at M es (suc k) ≡ counted M (world_at M es k)
     behind_read k n q h = at_next M es k _ h ∙ read_is M (world_at M es k) n 0 q (sound_at M es only k)
 
     -- ---- acknowledged in place
 
-    stands_so : (k n : ℕ) (c : Command) → slice_get es k ≡ Some (Client n 0 (Write c)) → StandsInHistory M es k ((world_at M es k).arrivals + 1) 0 (world_at M es k).replica.term (length (world_at M es k).replica.log)
-    stands_so k n c h =
+    stands_so : (k n : ℕ) (g : Grouping) (c : ShardCommand) → slice_get es k ≡ Some (Client n 0 (Write g c)) → M.fault c ≡ None → StandsInHistory M es k ((world_at M es k).arrivals + 1) 0 (world_at M es k).replica.term (length (world_at M es k).replica.log)
+    stands_so k n g c h faultless =
         let w : World S = world_at M es k in
-        let next : world_at M es (k + 1) ≡ written M w c = rw add-one (behind_write k n c h) in
+        let next : world_at M es (k + 1) ≡ written M w c = rw add-one (behind_write k n g c h faultless) in
         record {
           entry = new_entry M w c;
           stands = rw next (get_last w.replica.log (new_entry M w c));
           term_is = refl;
           from = rw next (length w.origins, get_last w.origins (new_origin M w c));
+          grouping = g;
           command = c;
           came = record { event = k; before = omega arith; comes = record { node = n; here = h; number = refl } };
           same = refl;
         }
 
-    stands : (k j a s t o : ℕ) (reply : Reply) → Acks M es k j a s t o reply → StandsInHistory M es k a s t o
+    stands : (k j a s t o : ℕ) (reply : ShardReply) → Acks M es k j a s t o reply → StandsInHistory M es k a s t o
     stands k j a s t o reply h =
         let x = ack_at k j a s t o reply h in
-        rw (x.arrival, x.shard, x.term, x.offset) (stands_so k x.node x.command x.here)
+        rw (x.arrival, x.shard, x.term, x.offset) (stands_so k x.node x.grouping x.command x.here x.faultless)
 
     -- an acknowledged write has made the log longer
-    log_behind : (k j a s t o : ℕ) (reply : Reply) → Acks M es k j a s t o reply → length (world_at M es (suc k)).history ≡ o + 1
+    log_behind : (k j a s t o : ℕ) (reply : ShardReply) → Acks M es k j a s t o reply → length (world_at M es (suc k)).history ≡ o + 1
     log_behind k j a s t o reply h =
         let x = ack_at k j a s t o reply h in
         let sound = sound_at M es only (suc k) in
-        let next = ap (λ (w : World S). w.history) (behind_write k x.node x.command x.here) in
-        omega (arith, ap length next, sound.commit, x.offset, ap (λ (w : World S). w.replica.commit) (behind_write k x.node x.command x.here), ap length sound.history)
+        let next = ap (λ (w : World S). w.history) (behind_write k x.node x.grouping x.command x.here x.faultless) in
+        omega (arith, ap length next, sound.commit, x.offset, ap (λ (w : World S). w.replica.commit) (behind_write k x.node x.grouping x.command x.here x.faultless), ap length sound.history)
 
     -- of two acknowledgements the earlier has the lower arrival and offset
-    acks_rise : (k j a s t o k' j' a' s' t' o' : ℕ) (reply reply' : Reply) → Acks M es k j a s t o reply → Acks M es k' j' a' s' t' o' reply' → k < k' → (a < a') × (o < o')
+    acks_rise : (k j a s t o k' j' a' s' t' o' : ℕ) (reply reply' : ShardReply) → Acks M es k j a s t o reply → Acks M es k' j' a' s' t' o' reply' → k < k' → (a < a') × (o < o')
     acks_rise k j a s t o k' j' a' s' t' o' reply reply' h h' lt =
         let x = ack_at k j a s t o reply h in
         let x' = ack_at k' j' a' s' t' o' reply' h' in
@@ -186,7 +248,7 @@ module _ {S : Type 0} (M : Meaning S) where
           omega (arith, log_behind k j a s t o reply h, x'.offset, ap length sound'.history, longer_later M es (suc k) k' (omega arith)),
         )
 
-    once : (k j a s t o k' j' a' s' t' o' : ℕ) (reply reply' : Reply) → Acks M es k j a s t o reply → Acks M es k' j' a' s' t' o' reply' → ((k ≡ k') × (j ≡ j')) ⊎ ((a ≢ a') × (s ≡ s' → o ≢ o'))
+    once : (k j a s t o k' j' a' s' t' o' : ℕ) (reply reply' : ShardReply) → Acks M es k j a s t o reply → Acks M es k' j' a' s' t' o' reply' → ((k ≡ k') × (j ≡ j')) ⊎ ((a ≢ a') × (s ≡ s' → o ≢ o'))
     once k j a s t o k' j' a' s' t' o' reply reply' h h' = elim (order k k') [
       | inl same ↦ inl (same, (ack_at k j a s t o reply h).place ∙ sym (ack_at k' j' a' s' t' o' reply' h').place)
       | inr (inl lt) ↦ let r = acks_rise k j a s t o k' j' a' s' t' o' reply reply' h h' lt in inr (λ e. absurd (omega (arith, r.0, e)), λ _ e. absurd (omega (arith, r.1, e)))
@@ -198,28 +260,28 @@ module _ {S : Type 0} (M : Meaning S) where
 
     -- ---- replies
 
-    reply_so : (k n : ℕ) (c : Command) → slice_get es k ≡ Some (Client n 0 (Write c)) → reply_at M (history_at M es (k + 1) 0) (length (world_at M es k).replica.log) ≡ Some (M.reply (world_at M es k).replica.value (id_of (entry_of M (world_at M es k).replica c)) (world_at M es k).replica.clock c)
-    reply_so k n c h =
+    reply_so : (k n : ℕ) (g : Grouping) (c : ShardCommand) → slice_get es k ≡ Some (Client n 0 (Write g c)) → M.fault c ≡ None → reply_at M (history_at M es (k + 1) 0) (length (world_at M es k).replica.log) ≡ Some (M.reply (world_at M es k).replica.value (id_of (entry_of M (world_at M es k).replica c)) (world_at M es k).replica.clock c)
+    reply_so k n g c h faultless =
         let w : World S = world_at M es k in
-        let next : world_at M es (k + 1) ≡ written M w c = rw add-one (behind_write k n c h) in
+        let next : world_at M es (k + 1) ≡ written M w c = rw add-one (behind_write k n g c h faultless) in
         rw (next, get_last w.replica.log (new_entry M w c), take-append_seam w.replica.log (new_entry M w c ∷ []), (sound_at M es only k).value) refl
 
     replies : RepliesMatch M es
     replies k j a s t o reply h =
         let x = ack_at k j a s t o reply h in
-        rw (x.shard, x.offset, x.reply_is) (reply_so k x.node x.command x.here)
+        rw (x.shard, x.offset, x.reply_is) (reply_so k x.node x.grouping x.command x.here x.faultless)
 
     -- ---- causes
 
     earlier : (k : ℕ) (s : ℕ) (e : Entry) (x : Cause) → IsCaused M es k s e x → IsCaused M es (suc k) s e x
     earlier k s e cause.Opening h = h
-    earlier k s e (cause.Arrival a) h = (h.0, record { event = h.1.event; before = omega (arith, h.1.before); comes = h.1.comes }, h.2)
+    earlier k s e (cause.Arrival a) h = (h.0, h.1, record { event = h.2.event; before = omega (arith, h.2.before); comes = h.2.comes }, h.3, h.4)
 
     abbrev AllCaused : ℕ → World S → Type 0
     AllCaused k w = (i : ℕ) (e : Entry) (x : Origin) → slice_get w.replica.log i ≡ Some e → slice_get w.origins i ≡ Some x → IsCaused M es k 0 e x.cause
 
-    caused_write : (k n : ℕ) (c : Command) → slice_get es k ≡ Some (Client n 0 (Write c)) → AllCaused k (world_at M es k) → AllCaused (suc k) (written M (world_at M es k) c)
-    caused_write k n c h known i e x g f =
+    caused_write : (k n : ℕ) (g : Grouping) (c : ShardCommand) → slice_get es k ≡ Some (Client n 0 (Write g c)) → M.fault c ≡ None → AllCaused k (world_at M es k) → AllCaused (suc k) (written M (world_at M es k) c)
+    caused_write k n grouping c h faultless known i e x g f =
         let w : World S = world_at M es k in
         let long = (sound_at M es only k).steps.long in
         elim (get_more w.replica.log (new_entry M w c) e i g) [
@@ -229,15 +291,20 @@ module _ {S : Type 0} (M : Meaning S) where
           ]
           | inr p ↦ elim (get_more w.origins (new_origin M w c) x i f) [
             | inl l ↦ absurd (omega (arith, p.0, long, get_within w.origins x i l))
-            | inr q ↦ rw (← p.1, ← q.1) (c, record { event = k; before = omega arith; comes = record { node = n; here = h; number = refl } }, refl)
+            | inr q ↦ rw (← p.1, ← q.1) (grouping, c, record { event = k; before = omega arith; comes = record { node = n; here = h; number = refl } }, faultless, refl)
           ]
         ]
 
     caused_next : (k : ℕ) → AllCaused k (world_at M es k) → (o : Option Event) → slice_get es k ≡ o → AllCaused (suc k) (world_at M es (suc k))
     caused_next k known None h = subst (AllCaused (suc k)) (sym (at_end M es k h)) (λ i e x g f. earlier k 0 e x.cause (known i e x g f))
-    caused_next k known (Some (Client n s (Write c))) h =
-        let here : slice_get es k ≡ Some (Client n 0 (Write c)) = h ∙ ap (λ y. Some (Client n y (Write c))) (only k n s (Write c) h) in
-        subst (AllCaused (suc k)) (sym (behind_write k n c here)) (caused_write k n c here known)
+    caused_next k known (Some (Client n s (Write g c))) h = by_fault (M.fault c) refl
+      where
+        here : slice_get es k ≡ Some (Client n 0 (Write g c))
+        here = h ∙ ap (λ y. Some (Client n y (Write g c))) (only k n s (Write g c) h)
+
+        by_fault : (f : Option Bad) → M.fault c ≡ f → AllCaused (suc k) (world_at M es (suc k))
+        by_fault None faultless = subst (AllCaused (suc k)) (sym (behind_write k n g c here faultless)) (caused_write k n g c here faultless known)
+        by_fault (Some bad) fault = subst (AllCaused (suc k)) (sym (behind_refusal k n g c bad here fault)) (λ i e x g f. earlier k 0 e x.cause (known i e x g f))
     caused_next k known (Some (Client n s (Read q))) h =
         let here : slice_get es k ≡ Some (Client n 0 (Read q)) = h ∙ ap (λ y. Some (Client n y (Read q))) (only k n s (Read q) h) in
         subst (AllCaused (suc k)) (sym (behind_read k n q here)) (λ i e x g f. earlier k 0 e x.cause (known i e x g f))
@@ -291,19 +358,19 @@ module _ {S : Type 0} (M : Meaning S) where
     -- ---- reads
 
     -- every answer is of term 1
-    ack_term : (k j a s t o : ℕ) (reply : Reply) → Acks M es k j a s t o reply → t ≡ 1
+    ack_term : (k j a s t o : ℕ) (reply : ShardReply) → Acks M es k j a s t o reply → t ≡ 1
     ack_term k j a s t o reply h = (ack_at k j a s t o reply h).term ∙ (sound_at M es only k).term
 
-    read_term : (k j a s t p : ℕ) (answer : Answer) → Reads M es k j a s t p answer → t ≡ 1
+    read_term : (k j a s t p : ℕ) (answer : ShardAnswer) → Reads M es k j a s t p answer → t ≡ 1
     read_term k j a s t p answer h = (read_at k j a s t p answer h).term ∙ (sound_at M es only k).term
 
     -- a told prefix is the whole history before its event
-    prefix_is : (k j a s t p : ℕ) (answer : Answer) → Reads M es k j a s t p answer → p ≡ length (world_at M es k).history
+    prefix_is : (k j a s t p : ℕ) (answer : ShardAnswer) → Reads M es k j a s t p answer → p ≡ length (world_at M es k).history
     prefix_is k j a s t p answer h =
         let sound = sound_at M es only k in
         (read_at k j a s t p answer h).prefix ∙ sound.commit ∙ sym (ap length sound.history)
 
-    read_answer : (k n : ℕ) (q : Query) → slice_get es k ≡ Some (Client n 0 (Read q)) → M.answer (world_at M es k).replica.value q ≡ answer_after M (history_at M es (k + 1) 0) (world_at M es k).replica.commit q
+    read_answer : (k n : ℕ) (q : ShardQuery) → slice_get es k ≡ Some (Client n 0 (Read q)) → M.answer (world_at M es k).replica.value q ≡ answer_after M (history_at M es (k + 1) 0) (world_at M es k).replica.commit q
     read_answer k n q h =
         let w : World S = world_at M es k in
         let sound = sound_at M es only k in
@@ -311,7 +378,7 @@ module _ {S : Type 0} (M : Meaning S) where
         let whole : take w.replica.commit w.history ≡ w.replica.log = rw (sound.commit, sound.history) (take-length w.replica.log) in
         ap (λ v. M.answer v q) (sound.value ∙ ap (state_after M) (sym whole)) ∙ ap (λ (u : World S). M.answer (state_after M (take w.replica.commit u.history)) q) (sym next)
 
-    came_so : (k n a s : ℕ) (q : Query) → slice_get es k ≡ Some (Client n 0 (Read q)) → a ≡ (world_at M es k).arrivals + 1 → s ≡ 0 → CameBefore M es (k + 1) a s (Read q)
+    came_so : (k n a s : ℕ) (q : ShardQuery) → slice_get es k ≡ Some (Client n 0 (Read q)) → a ≡ (world_at M es k).arrivals + 1 → s ≡ 0 → CameBefore M es (k + 1) a s (Read q)
     came_so k n a s q h arrival shard = record {
       event = k;
       before = omega arith;
@@ -321,7 +388,7 @@ module _ {S : Type 0} (M : Meaning S) where
     within_so : (k s p : ℕ) → s ≡ 0 → p ≤ length (history_at M es (k + 1) 0) → p ≤ length (history_at M es (k + 1) s)
     within_so k s p shard h = rw shard h
 
-    answer_so : (k n s p : ℕ) (q : Query) (answer : Answer) → slice_get es k ≡ Some (Client n 0 (Read q)) → s ≡ 0 → p ≡ (world_at M es k).replica.commit → answer ≡ M.answer (world_at M es k).replica.value q → answer ≡ answer_after M (history_at M es (k + 1) s) p q
+    answer_so : (k n s p : ℕ) (q : ShardQuery) (answer : ShardAnswer) → slice_get es k ≡ Some (Client n 0 (Read q)) → s ≡ 0 → p ≡ (world_at M es k).replica.commit → answer ≡ M.answer (world_at M es k).replica.value q → answer ≡ answer_after M (history_at M es (k + 1) s) p q
     answer_so k n s p q answer h shard prefix is = rw (shard, prefix, is) (read_answer k n q h)
 
     reads_match : ReadsMatch M es
@@ -338,6 +405,32 @@ module _ {S : Type 0} (M : Meaning S) where
           reaches_lower = λ k' j' b u q other g lt. absurd (omega (arith, lt, read_term k' j' b s u q other g, read_term k j a s t p answer h));
           reaches_earlier = λ k' j' b q other lt g. omega (arith, prefix_is k' j' b s t q other g, prefix, longer_later M es k' k (omega arith));
         }
+
+    -- ---- refusals
+
+    came_to_write : (k n a s : ℕ) (g : Grouping) (c : ShardCommand) → slice_get es k ≡ Some (Client n 0 (Write g c)) → a ≡ (world_at M es k).arrivals + 1 → s ≡ 0 → CameBefore M es (k + 1) a s (Write g c)
+    came_to_write k n a s g c h arrival shard = record {
+      event = k;
+      before = omega arith;
+      comes = record { node = n; here = h ∙ ap (λ y. Some (Client n y (Write g c))) (sym shard); number = arrival };
+    }
+
+    refusals_are_true : RefusalsAreTrue M es
+    refusals_are_true k j a s refusal h = by_event h.shown.event h.shown.here h.shown.seen
+      where
+        by_event : (e : Event) → slice_get es k ≡ Some e → slice_get (happens M (world_at M es k) e).effects j ≡ Some (Answered a (outcome.Refused refusal)) → IsRefused M es k a s refusal
+        by_event (Client n z r) here seen =
+            let x = refusal_is (world_at M es k) n z r j a refusal seen in
+            let zero_shard : z ≡ 0 = only k n z r here in
+            let there : slice_get es k ≡ Some (Client n 0 (Write x.grouping x.command)) = here ∙ ap (λ (q : Request). Some (Client n z q)) x.is ∙ ap (λ y. Some (Client n y (Write x.grouping x.command))) zero_shard in
+            record {
+              grouping = x.grouping;
+              command = x.command;
+              came = came_to_write k n a s x.grouping x.command there x.arrival (shard_is (k + 1) a s h.request h.came);
+              bad = x.bad;
+              told = x.told;
+              true_of = x.fault;
+            }
 
     -- ---- replicas
 
@@ -366,5 +459,6 @@ module _ {S : Type 0} (M : Meaning S) where
       replies = replies;
       causes = record { caused = caused; once = arrivals_once };
       reads = reads_match;
+      refusals = refusals_are_true;
       replicas = record { agree = agree; grows = begins };
     }

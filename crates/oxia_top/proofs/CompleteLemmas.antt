@@ -3,7 +3,7 @@ use Rattle.std.proofs.Common.{◌≡◌, ◌∙◌, ◌≤◌, ℕ, List, ◌++�
 use Rattle.ox_outside.specs.Stream.{Consumes, IsAtEnd}
 use Rattle.ox_types.specs.declared.ended.Ended.{Ended}
 use Rattle.ox_types.specs.declared.ended.Ended.TheVariants.{Done, Usage, BadLine, ReadFault, WriteFault, NoMemory, InputTooLong}
-use Rattle.oxia_top.specs.declared.schedule.Schedule.{Schedule}
+use Rattle.ox_schedule.specs.declared.schedule.Schedule.{Schedule}
 use Rattle.oxia_top.specs.Top.{Outside, Ends, Replays, MustReplay, IsComplete}
 
 -- what was read to its end is all that was told

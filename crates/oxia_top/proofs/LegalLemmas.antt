@@ -1,29 +1,25 @@
 -- Every run is legal.
-use Rattle.std.proofs.Common.{◌≡◌, ◌≢◌, ◌∙◌, ℕ, zero, suc, ◌+◌, ◌-◌, ◌<◌, ◌≤◌, ◌&&◌, true, List, [], ◌∷◌, ◌++◌, length, take, drop, map, slice_get, Option, Some, None, ◌⊎◌, inl, inr, refl, sym, ap, subst, arith, length-append, append-nil, append_assoc, add-one}
-use Rattle.std.proofs.Math.Seq.{take-append_seam, take-length}
+use Rattle.std.proofs.Common.{◌≡◌, ◌∙◌, ℕ, zero, suc, ◌+◌, ◌≤◌, List, [], ◌∷◌, ◌++◌, length, take, drop, slice_get, Option, Some, None, ◌⊎◌, inl, inr, refl, sym, ap, subst, arith, length-append, append-nil, append_assoc}
+use Rattle.std.proofs.Math.Seq.{take-length}
 use Rattle.std.proofs.lemmas.Grind.{common_steps}
-use Rattle.oxia_top.specs.declared.ops.Command.{Command}
-use Rattle.oxia_top.specs.declared.ops.Query.{Query}
-use Rattle.oxia_top.specs.declared.ops.Reply.{Reply}
-use Rattle.oxia_top.specs.declared.ops.Answer.{Answer}
-use Rattle.oxia_top.specs.declared.schedule.Request.{Request}
-use Rattle.oxia_top.specs.declared.schedule.Request.TheVariants as request
-use Rattle.oxia_top.specs.declared.schedule.Event.{Event}
-use Rattle.oxia_top.specs.declared.schedule.Event.TheVariants.{Client}
-use Rattle.oxia_top.specs.declared.leader.Body.TheVariants as body
+use Rattle.ox_ops.specs.declared.write.ShardCommand.{ShardCommand}
+use Rattle.ox_ops.specs.declared.query.ShardQuery.{ShardQuery}
+use Rattle.ox_types.specs.declared.bad.Bad.{Bad}
+use Rattle.ox_schedule.specs.declared.schedule.Grouping.{Grouping}
+use Rattle.ox_schedule.specs.declared.schedule.Request.{Request}
+use Rattle.ox_schedule.specs.declared.schedule.Request.TheVariants as request
+use Rattle.ox_schedule.specs.declared.schedule.Event.{Event}
+use Rattle.ox_schedule.specs.declared.schedule.Event.TheVariants.{Client}
 use Rattle.oxia_top.specs.declared.leader.Entry.{Entry}
-use Rattle.oxia_top.specs.declared.leader.Outcome.TheVariants as outcome
-use Rattle.oxia_top.specs.declared.world.Cause.{Cause}
+use Rattle.oxia_top.specs.declared.leader.Outcome.{Outcome}
 use Rattle.oxia_top.specs.declared.world.Cause.TheVariants as cause
 use Rattle.oxia_top.specs.declared.world.Origin.{Origin}
-use Rattle.oxia_top.specs.declared.world.Effect.{Effect}
-use Rattle.oxia_top.specs.declared.world.Effect.TheVariants.{Arrival, Kept, Answered}
-use Rattle.oxia_top.specs.Meaning.{Meaning, id_of, after, state_from, state_after, reply_at, answer_after}
-use Rattle.oxia_top.specs.Leader.{Replica, pass_entry, entry_of, with_entry, writes, reads, takes}
+use Rattle.oxia_top.specs.Meaning.{Meaning, after, state_from, state_after}
+use Rattle.oxia_top.specs.Leader.{Replica, pass_entry, entry_of, with_entry, writes, tells}
 use Rattle.oxia_top.specs.World.{World, grown, origin_of, comes, happens, opening_world, world_after}
 use Rattle.oxia_top.specs.Origins.{AreInStep}
 use Rattle.oxia_top.specs.Moments.{Begins, world_at}
-use Rattle.oxia_top.proofs.OriginLemmas.{get_more, get_last, get_within, get_some}
+use Rattle.oxia_top.proofs.OriginLemmas.{get_more}
 
 -- ---- lists
 
@@ -51,14 +47,15 @@ split j k h = grind (arith, common_steps)
 module _ {S : Type 0} (M : Meaning S) where
   -- ---- what a request makes of a world whose history is the whole log
 
-  pub comes_write : (r : Replica S) (before a s : ℕ) (os : List Origin) (c : Command) → record { replica = with_entry M r (entry_of M r c); arrivals = a; origins = os ++ origin_of s (cause.Arrival a) (entry_of M r c) ∷ []; history = r.log ++ entry_of M r c ∷ [] } ≡ (comes (record { replica = r; arrivals = before; origins = os; history = r.log }) s a (writes M r c)).world
+  pub comes_write : (r : Replica S) (before a s : ℕ) (os : List Origin) (c : ShardCommand) → record { replica = with_entry M r (entry_of M r c); arrivals = a; origins = os ++ origin_of s (cause.Arrival a) (entry_of M r c) ∷ []; history = r.log ++ entry_of M r c ∷ [] } ≡ (comes (record { replica = r; arrivals = before; origins = os; history = r.log }) s a (writes M r c)).world
   comes_write r before a s os c = rw (grown_one r.log (entry_of M r c)) refl
 
-  pub comes_written : (w : World S) (r r' : Replica S) (before a s : ℕ) (os os' : List Origin) (c : Command) → w ≡ record { replica = r; arrivals = before; origins = os; history = r.log } → r' ≡ (writes M r c).state → os' ≡ os ++ origin_of s (cause.Arrival a) (entry_of M r c) ∷ [] → record { replica = r'; arrivals = a; origins = os'; history = r'.log } ≡ (comes w s a (writes M w.replica c)).world
+  pub comes_written : (w : World S) (r r' : Replica S) (before a s : ℕ) (os os' : List Origin) (c : ShardCommand) → w ≡ record { replica = r; arrivals = before; origins = os; history = r.log } → r' ≡ (writes M r c).state → os' ≡ os ++ origin_of s (cause.Arrival a) (entry_of M r c) ∷ [] → record { replica = r'; arrivals = a; origins = os'; history = r'.log } ≡ (comes w s a (writes M w.replica c)).world
   comes_written w r r' before a s os os' c is state origins = rw (is, state, origins) (comes_write r before a s os c)
 
-  pub comes_read : (r : Replica S) (before a s : ℕ) (os : List Origin) (q : Query) → r.commit ≡ length r.log → record { replica = r; arrivals = a; origins = os; history = r.log } ≡ (comes (record { replica = r; arrivals = before; origins = os; history = r.log }) s a (reads M r q)).world
-  comes_read r before a s os q whole = rw (whole, grown_none r.log, append-nil os) refl
+  -- a told outcome changes nothing but the count of arrivals
+  pub comes_told : (r : Replica S) (before a s : ℕ) (os : List Origin) (x : Outcome) → r.commit ≡ length r.log → record { replica = r; arrivals = a; origins = os; history = r.log } ≡ (comes (record { replica = r; arrivals = before; origins = os; history = r.log }) s a (tells r x)).world
+  comes_told r before a s os x whole = rw (whole, grown_none r.log, append-nil os) refl
 
   -- ---- the one-thread store
 
@@ -88,13 +85,13 @@ module _ {S : Type 0} (M : Meaning S) where
   abbrev pub counted : World S → World S
   counted w = record { replica = w.replica; arrivals = w.arrivals + 1; origins = w.origins; history = w.history }
 
-  abbrev pub new_entry : World S → Command → Entry
+  abbrev pub new_entry : World S → ShardCommand → Entry
   new_entry w c = entry_of M w.replica c
 
-  abbrev pub new_origin : World S → Command → Origin
+  abbrev pub new_origin : World S → ShardCommand → Origin
   new_origin w c = origin_of 0 (cause.Arrival (w.arrivals + 1)) (new_entry w c)
 
-  abbrev pub written : World S → Command → World S
+  abbrev pub written : World S → ShardCommand → World S
   written w c = record {
     replica = with_entry M w.replica (new_entry w c);
     arrivals = w.arrivals + 1;
@@ -102,17 +99,22 @@ module _ {S : Type 0} (M : Meaning S) where
     history = w.replica.log ++ new_entry w c ∷ [];
   }
 
-  pub read_is : (w : World S) (n s : ℕ) (q : Query) → IsSound w → (happens M w (Client n s (request.Read q))).world ≡ counted w
-  unfolding happens
-  read_is w n s q h =
-      let same : grown w.history w.replica.log w.replica.commit ≡ w.history = rw (h.history, h.commit) (grown_none w.replica.log) in
-      rw (same, append-nil w.origins) refl
+  same_history : (w : World S) → IsSound w → grown w.history w.replica.log w.replica.commit ≡ w.history
+  same_history w h = rw (h.history, h.commit) (grown_none w.replica.log)
 
-  pub write_is : (w : World S) (n : ℕ) (c : Command) → IsSound w → (happens M w (Client n 0 (request.Write c))).world ≡ written w c
+  pub read_is : (w : World S) (n s : ℕ) (q : ShardQuery) → IsSound w → (happens M w (Client n s (request.Read q))).world ≡ counted w
   unfolding happens
-  write_is w n c h =
+  read_is w n s q h = rw (same_history w h, append-nil w.origins) refl
+
+  pub refused_is : (w : World S) (n s : ℕ) (g : Grouping) (c : ShardCommand) (bad : Bad) → M.fault c ≡ Some bad → IsSound w → (happens M w (Client n s (request.Write g c))).world ≡ counted w
+  unfolding happens
+  refused_is w n s g c bad fault h = rw (fault, same_history w h, append-nil w.origins) refl
+
+  pub write_is : (w : World S) (n : ℕ) (g : Grouping) (c : ShardCommand) → M.fault c ≡ None → IsSound w → (happens M w (Client n 0 (request.Write g c))).world ≡ written w c
+  unfolding happens
+  write_is w n g c faultless h =
       let same : grown w.history (w.replica.log ++ new_entry w c ∷ []) (length w.replica.log + 1) ≡ w.replica.log ++ new_entry w c ∷ [] = rw h.history (grown_one w.replica.log (new_entry w c)) in
-      rw same refl
+      rw (faultless, same) refl
 
   pub opening_sound : IsSound (opening_world M)
   opening_sound = record {
@@ -151,7 +153,7 @@ module _ {S : Type 0} (M : Meaning S) where
   arrival_is : (a b : ℕ) → cause.Arrival a ≡ cause.Arrival b → a ≡ b
   arrival_is a b e = cc
 
-  written_sound : (w : World S) (c : Command) → IsSound w → IsSound (written w c)
+  written_sound : (w : World S) (c : ShardCommand) → IsSound w → IsSound (written w c)
   written_sound w c h = record {
     history = refl;
     commit = sym (length-append w.replica.log (new_entry w c ∷ []));
@@ -199,7 +201,11 @@ module _ {S : Type 0} (M : Meaning S) where
       ]
 
   pub next_sound : (w : World S) (n : ℕ) (r : Request) → IsSound w → IsSound (happens M w (Client n 0 r)).world
-  next_sound w n (request.Write c) h = subst IsSound (sym (write_is w n c h)) (written_sound w c h)
+  next_sound w n (request.Write g c) h = by_fault (M.fault c) refl
+    where
+      by_fault : (f : Option Bad) → M.fault c ≡ f → IsSound (happens M w (Client n 0 (request.Write g c))).world
+      by_fault None e = subst IsSound (sym (write_is w n g c e h)) (written_sound w c h)
+      by_fault (Some bad) e = subst IsSound (sym (refused_is w n 0 g c bad e h)) (counted_sound w h)
   next_sound w n (request.Read q) h = subst IsSound (sym (read_is w n 0 q h)) (counted_sound w h)
 
   -- ---- worlds by their place

@@ -1,10 +1,4 @@
-pub mod Words
-pub mod EventLemmas
-pub mod WordLemmas
-pub mod LineLemmas
-pub mod TextLemmas
 pub mod ScheduleLemmas
-pub mod StoreLemmas
 pub mod OriginLemmas
 pub mod LegalLemmas
 pub mod AnswerLemmas

@@ -1,177 +1,40 @@
--- The reader of a schedule answers one exactly where the bytes spell it.
-use Rattle.std.proofs.Common.{◌≡◌, ◌∙◌, ℕ, ◌+◌, ◌<◌, Bool, true, false, not, eqb, cond, List, [], ◌∷◌, ◌++◌, length, map, slice_get, Some, codes, Result, Ok, Err, inl, inr, refl, sym, ap, subst, arith, append_assoc}
+-- The runs of schedules: all their events are at shard 0, and they are legal.
+use Rattle.std.proofs.Common.{◌≡◌, ℕ, ◌<◌, true, ◌&&◌, Bool, false, List, [], ◌∷◌, slice_get, Some, arith, refl}
 use Rattle.std.specs.List.{list_all}
-use Rattle.std.specs.Str.{bytes_eq}
-use Rattle.std.proofs.lemmas.Grind.{common_steps}
 use Rattle.std.proofs.lemmas.Bool.{eqb-true}
-use Rattle.ox_types.specs.declared.ended.LineRule.{LineRule}
-use Rattle.ox_types.specs.declared.ended.LineRule.TheVariants as rule
-use Rattle.oxia_top.specs.declared.schedule.Event.{Event}
-use Rattle.oxia_top.specs.declared.schedule.Request.{Request}
-use Rattle.oxia_top.specs.declared.schedule.Event.TheVariants.{Client}
-use Rattle.oxia_top.specs.declared.schedule.Places.{Places}
-use Rattle.oxia_top.specs.declared.schedule.First.{First}
-use Rattle.oxia_top.specs.declared.schedule.First.TheVariants.{Solo}
-use Rattle.oxia_top.specs.declared.schedule.Schedule.{Schedule}
-use Rattle.oxia_top.specs.declared.fault.ScheduleFault.{ScheduleFault}
-use Rattle.std.specs.Prelude.{IfOk}
-use Rattle.oxia_top.specs.Outcome.{◌>>=◌}
-use Rattle.oxia_top.specs.Spelling.{is_event, event_words, is_word, words_of, SpellsEvent}
-use Rattle.oxia_top.specs.Reading.{number_of, line_at}
-use Rattle.oxia_top.specs.Schedule.{Answers, IsSchedule, Spells, lines_of, places_of, is_first, first_words, at_line, with_front, event_then, events_at, first_of, first_at, schedule_with, behind_first, schedule_in, schedule_at}
-use Rattle.oxia_top.proofs.Words.{both, two, same_bytes, number_is, number_again}
-use Rattle.oxia_top.proofs.EventLemmas.{bind_ok, chosen}
-use Rattle.oxia_top.proofs.LineLemmas.{line_found, line_again}
 use Rattle.std.proofs.lemmas.Bool.Decides.{Decides-ltb}
+use Rattle.ox_schedule.specs.declared.schedule.Request.{Request}
+use Rattle.ox_schedule.specs.declared.schedule.Event.{Event}
+use Rattle.ox_schedule.specs.declared.schedule.Event.TheVariants.{Client}
+use Rattle.ox_schedule.specs.declared.schedule.Places.{Places}
+use Rattle.ox_schedule.specs.declared.schedule.First.{First}
+use Rattle.ox_schedule.specs.declared.schedule.First.TheVariants.{Solo}
+use Rattle.ox_schedule.specs.declared.schedule.Schedule.{Schedule}
+use Rattle.ox_schedule.specs.Spelling.{is_event}
+use Rattle.ox_schedule.specs.Schedule.{IsSchedule, is_first, places_of}
 use Rattle.oxia_top.specs.Shard.{shard_meaning}
 use Rattle.oxia_top.specs.Legal.{IsLegal}
-use Rattle.oxia_top.proofs.WordLemmas.{number_is_word}
 use Rattle.oxia_top.proofs.LegalLemmas.{AtShardZero}
 use Rattle.oxia_top.proofs.AnswerLemmas.{is_legal}
 
-pub with_more : (es : List Event) (e : Event) (r : Result (List Event) (ℕ × LineRule)) → with_front es (with_front (e ∷ []) r) ≡ with_front (es ++ e ∷ []) r
-with_more es e (Ok fs) = ap (λ (t : List Event). Ok t) (sym (append_assoc es (e ∷ []) fs))
-with_more es e (Err bad) = refl
-
--- ---- events
-
-events_found : (p : Places) (n : ℕ) (lines : List (List ℕ)) (es : List Event) → events_at p n lines ≡ Ok es → (map words_of lines ≡ map event_words es) × (list_all (is_event p) es ≡ true)
-events_found p n [] es h = let it : [] ≡ es = cc in subst (λ (t : List Event). (map words_of [] ≡ map event_words t) × (list_all (is_event p) t ≡ true)) it (refl, refl)
-events_found p n (line ∷ lines) es h = by_parts (line_at p line) (events_at p (n + 1) lines) (λ e. line_found p line e) (λ fs. events_found p (n + 1) lines fs) h
-  where
-    by_parts : (r : Result Event LineRule) (others : Result (List Event) (ℕ × LineRule)) → ((e : Event) → r ≡ Ok e → SpellsEvent p (words_of line) e) → ((fs : List Event) → others ≡ Ok fs → (map words_of lines ≡ map event_words fs) × (list_all (is_event p) fs ≡ true)) → event_then (at_line n r) others ≡ Ok es → (map words_of (line ∷ lines) ≡ map event_words es) × (list_all (is_event p) es ≡ true)
-    by_parts (Err broken) others first rest h = absurd cc
-    by_parts (Ok e) (Err bad) first rest h = absurd cc
-    by_parts (Ok e) (Ok fs) first rest h =
-        let it : e ∷ fs ≡ es = cc in
-        let a = first e refl in
-        let b = rest fs refl in
-        subst (λ (t : List Event). (map words_of (line ∷ lines) ≡ map event_words t) × (list_all (is_event p) t ≡ true)) it
-        (ap (λ (w : List (List ℕ)). w ∷ map words_of lines) a.same ∙ ap (λ (t : List (List (List ℕ))). event_words e ∷ t) b.0, two _ _ a.lawful b.1)
-
-events_again : (p : Places) (n : ℕ) (lines : List (List ℕ)) (es : List Event) → map words_of lines ≡ map event_words es → list_all (is_event p) es ≡ true → events_at p n lines ≡ Ok es
-events_again p n [] [] same h = refl
-events_again p n [] (e ∷ es) same h = absurd cc
-events_again p n (line ∷ lines) [] same h = absurd cc
-events_again p n (line ∷ lines) (e ∷ es) same h =
-    let x = both (is_event p e) _ h in
-    let first : words_of line ≡ event_words e = cc in
-    let rest : map words_of lines ≡ map event_words es = cc in
-    rw (line_again p line e (record { lawful = x.0; same = first }), events_again p (n + 1) lines es rest x.1) refl
-
--- ---- the first line
-
-first_of_is : (ws : List (List ℕ)) (f : First) → first_of ws ≡ Ok f → (ws ≡ first_words f) × (is_first f ≡ true)
-unfolding first_of
-first_of_is [] f h = absurd cc
-first_of_is (w ∷ []) f h = absurd cc
-first_of_is (w ∷ n ∷ x ∷ ws) f h = absurd cc
-first_of_is (w ∷ n ∷ []) f h =
-    elim (chosen (bytes_eq w (codes "solo")) (number_of n >>= λ shards. cond (eqb shards 1) (Ok (Solo shards)) (Err rule.Number)) (Err rule.First) (Ok f) h) [
-      | inl x ↦
-          let s = bind_ok (number_of n) (λ shards. cond (eqb shards 1) (Ok (Solo shards)) (Err rule.Number)) f x.1 in
-          elim (chosen (eqb s.0 1) (Ok (Solo s.0)) (Err rule.Number) (Ok f) s.2) [
-            | inl y ↦
-                let it : Solo s.0 ≡ f = cc (y.1) in
-                let k = number_is n s.0 s.1 in
-                subst (λ (g : First). (w ∷ n ∷ [] ≡ first_words g) × (is_first g ≡ true)) it
-                (ap (λ (v : List ℕ). v ∷ n ∷ []) (same_bytes w (codes "solo") x.0) ∙ ap (λ (v : List ℕ). codes "solo" ∷ v ∷ []) k.0, y.0)
-            | inr y ↦ absurd (cc (y.1))
-          ]
-      | inr x ↦ absurd (cc (x.1))
-    ]
-
-first_found : (line : List ℕ) (f : First) → first_at line ≡ Ok f → (words_of line ≡ first_words f) × (is_first f ≡ true)
-unfolding first_at
-first_found line f h =
-    elim (chosen (eqb (length line) 0) (Err rule.First) (cond (not (list_all is_word (words_of line))) (Err rule.Bytes) (first_of (words_of line))) (Ok f) h) [
-      | inl x ↦ absurd (cc (x.1))
-      | inr x ↦ elim (chosen (not (list_all is_word (words_of line))) (Err rule.Bytes) (first_of (words_of line)) (Ok f) x.1) [
-        | inl x ↦ absurd (cc (x.1))
-        | inr x ↦ first_of_is (words_of line) f x.1
-      ]
-    ]
-
-some_first : (line : List ℕ) (f : First) → words_of line ≡ first_words f → eqb (length line) 0 ≡ false
-some_first [] (Solo s) h = cc
-some_first (b ∷ line) f h = grind (arith, common_steps)
-
-solo_again : (s : ℕ) → eqb s 1 ≡ true → (list_all is_word (first_words (Solo s)) ≡ true) × (first_of (first_words (Solo s)) ≡ Ok (Solo s))
-unfolding first_of
-solo_again s h = let one : s ≡ 1 = eqb-true s 1 h in subst (λ (n : ℕ). (list_all is_word (first_words (Solo n)) ≡ true) × (first_of (first_words (Solo n)) ≡ Ok (Solo n))) (sym one) (rw (number_is_word 1 refl) refl, rw (number_again 1 refl) refl)
-
-first_again : (line : List ℕ) (f : First) → words_of line ≡ first_words f → is_first f ≡ true → first_at line ≡ Ok f
-unfolding first_at
-first_again line (Solo s) same h = let x = solo_again s h in by_parts (eqb (length line) 0) (words_of line) (some_first line (Solo s) same) same x.0 x.1
-  where
-    by_parts : (x : Bool) (ws : List (List ℕ)) → x ≡ false → ws ≡ first_words (Solo s) → list_all is_word (first_words (Solo s)) ≡ true → first_of (first_words (Solo s)) ≡ Ok (Solo s) → cond x (Err rule.First) (cond (not (list_all is_word ws)) (Err rule.Bytes) (first_of ws)) ≡ Ok (Solo s)
-    by_parts x ws e f g k = rw (e, f, g, k) refl
-
--- ---- schedules
-
-in_found : (lines : List (List ℕ)) (s : Schedule) → schedule_in lines ≡ Ok s → (map words_of lines ≡ first_words s.first ∷ map event_words s.events) × (is_first s.first ≡ true) × (list_all (is_event (places_of s.first)) s.events ≡ true)
-in_found [] s h = absurd cc
-in_found (line ∷ lines) s h = by_first (first_at line) (first_found line) h
-  where
-    by_events : (f : First) (r : Result (List Event) (ℕ × LineRule)) → ((es : List Event) → r ≡ Ok es → (map words_of lines ≡ map event_words es) × (list_all (is_event (places_of f)) es ≡ true)) → words_of line ≡ first_words f → is_first f ≡ true → schedule_with f r ≡ Ok s → (map words_of (line ∷ lines) ≡ first_words s.first ∷ map event_words s.events) × (is_first s.first ≡ true) × (list_all (is_event (places_of s.first)) s.events ≡ true)
-    by_events f (Err bad) known same lawful h = absurd cc
-    by_events f (Ok es) known same lawful h =
-        let it : record { first = f; events = es } ≡ s = cc in
-        let k = known es refl in
-        subst (λ (t : Schedule). (map words_of (line ∷ lines) ≡ first_words t.first ∷ map event_words t.events) × (is_first t.first ≡ true) × (list_all (is_event (places_of t.first)) t.events ≡ true)) it
-        (ap (λ (w : List (List ℕ)). w ∷ map words_of lines) same ∙ ap (λ (t : List (List (List ℕ))). first_words f ∷ t) k.0, lawful, k.1)
-
-    by_first : (r : Result First LineRule) → ((f : First) → r ≡ Ok f → (words_of line ≡ first_words f) × (is_first f ≡ true)) → behind_first (at_line 1 r) lines ≡ Ok s → (map words_of (line ∷ lines) ≡ first_words s.first ∷ map event_words s.events) × (is_first s.first ≡ true) × (list_all (is_event (places_of s.first)) s.events ≡ true)
-    by_first (Err broken) known h = absurd cc
-    by_first (Ok f) known h = let k = known f refl in by_events f (events_at (places_of f) 2 lines) (λ es. events_found (places_of f) 2 lines es) k.0 k.1 h
-
-in_again : (lines : List (List ℕ)) (s : Schedule) → map words_of lines ≡ first_words s.first ∷ map event_words s.events → is_first s.first ≡ true → list_all (is_event (places_of s.first)) s.events ≡ true → schedule_in lines ≡ Ok s
-in_again [] s same f l = absurd cc
-in_again (line ∷ lines) s same f l =
-    let first : words_of line ≡ first_words s.first = cc in
-    let rest : map words_of lines ≡ map event_words s.events = cc in
-    rw (first_again line s.first first f, events_again (places_of s.first) 2 lines s.events rest l) refl
-
-pub schedule_found : (bytes : List ℕ) (s : Schedule) → schedule_at bytes ≡ Ok s → Spells bytes s
-schedule_found bytes s h = let k = in_found (lines_of bytes) s h in record { valid = record { first = k.1; lawful = k.2 }; same = k.0 }
-
-pub schedule_again : (bytes : List ℕ) (s : Schedule) → Spells bytes s → schedule_at bytes ≡ Ok s
-schedule_again bytes s h = in_again (lines_of bytes) s h.same h.valid.first h.valid.lawful
-
-pub answers_found : (bytes : List ℕ) (r : Result Schedule ScheduleFault) → Answers r (schedule_at bytes) → IfOk r (λ s. Spells bytes s)
-answers_found bytes (Ok s) h = schedule_found bytes s h
-answers_found bytes (Err e) h = tt
-
-pub answers_only : (bytes : List ℕ) (r : Result Schedule ScheduleFault) → Answers r (schedule_at bytes) → (s : Schedule) → Spells bytes s → Answers r (Ok s)
-answers_only bytes r h s spelt = subst (λ (q : Result Schedule (ℕ × LineRule)). Answers r q) (schedule_again bytes s spelt) h
-
--- a text spells one schedule at most
-pub one_schedule : (bytes : List ℕ) (s t : Schedule) → Spells bytes s → Spells bytes t → s ≡ t
-one_schedule bytes s t h k =
-    let same : Ok s ≡ Ok t = sym (schedule_again bytes s h) ∙ schedule_again bytes t k in
-    cc
-
--- where reading finds a bad line, no schedule is spelt
-pub unspelt : (bytes : List ℕ) (bad : ℕ × LineRule) → schedule_at bytes ≡ Err bad → (s : Schedule) → Spells bytes s → ⊥
-unspelt bytes bad h s k =
-    let never : Err bad ≡ Ok s = sym h ∙ schedule_again bytes s k in
-    cc
-
--- ---- the runs of schedules
+pub both : (a b : Bool) → a && b ≡ true → (a ≡ true) × (b ≡ true)
+both true true h = (refl, refl)
+both true false h = absurd cc
+both false b h = absurd cc
 
 lawful_at : (p : Places) (es : List Event) (k : ℕ) (e : Event) → list_all (is_event p) es ≡ true → slice_get es k ≡ Some e → is_event p e ≡ true
 lawful_at p [] k e h g = absurd cc
 lawful_at p (d ∷ es) ℕ.zero e h g = let is : d ≡ e = cc in rw (← is) (both (is_event p d) _ h).0
 lawful_at p (d ∷ es) (ℕ.suc k) e h g = lawful_at p es k e (both (is_event p d) _ h).1 g
 
-shard_of : (p : Places) (n s : ℕ) (r : Request) → p.shards ≡ 1 → is_event p (Client n s r) ≡ true → s ≡ 0
+pub shard_of : (p : Places) (n s : ℕ) (r : Request) → p.shards ≡ 1 → is_event p (Client n s r) ≡ true → s ≡ 0
 shard_of p n s r one h =
     let a = both _ _ h in
     let b = both _ _ a.0 in
     let below : s < p.shards = (Decides-ltb s p.shards).0 b.1 in
     omega (arith, below, one)
 
-one_shard : (f : First) → is_first f ≡ true → (places_of f).shards ≡ 1
+pub one_shard : (f : First) → is_first f ≡ true → (places_of f).shards ≡ 1
 one_shard (Solo s) h = eqb-true s 1 h
 
 pub at_shard_zero : (s : Schedule) → IsSchedule s → AtShardZero shard_meaning s.events

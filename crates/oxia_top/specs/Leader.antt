@@ -1,9 +1,11 @@
 -- One step of a leader that is alone in its ensemble: what it keeps is committed and applied at once.
-use Rattle.std.specs.Prelude.{ℕ, ◌+◌, List, [], ◌∷◌, ◌++◌, length}
-use Rattle.oxia_top.specs.declared.ops.Command.{Command}
-use Rattle.oxia_top.specs.declared.ops.Query.{Query}
-use Rattle.oxia_top.specs.declared.schedule.Request.{Request}
-use Rattle.oxia_top.specs.declared.schedule.Request.TheVariants.{Write, Read}
+use Rattle.std.specs.Prelude.{ℕ, ◌+◌, List, [], ◌∷◌, ◌++◌, length, Option, Some, None}
+use Rattle.ox_types.specs.declared.bad.Bad.{Bad}
+use Rattle.ox_types.specs.declared.refusal.Refusal.TheVariants.{BadRequest}
+use Rattle.ox_ops.specs.declared.write.ShardCommand.{ShardCommand}
+use Rattle.ox_ops.specs.declared.query.ShardQuery.{ShardQuery}
+use Rattle.ox_schedule.specs.declared.schedule.Request.{Request}
+use Rattle.ox_schedule.specs.declared.schedule.Request.TheVariants.{Write, Read}
 use Rattle.oxia_top.specs.declared.leader.Body.TheVariants as body
 use Rattle.oxia_top.specs.declared.leader.Entry.{Entry}
 use Rattle.oxia_top.specs.declared.leader.Outcome.{Outcome}
@@ -29,13 +31,21 @@ pub record Output (S : Type 0) : Type 0 where
   pub kept : List Entry
   pub outcome : Outcome
 
+-- a client is told something, and nothing else changes
+abbrev pub tells : {S : Type 0} → Replica S → Outcome → Output S
+tells r x = record { state = r; kept = []; outcome = x }
+
+-- a request at fault is refused
+abbrev pub refuses : {S : Type 0} → Replica S → Bad → Output S
+refuses r bad = tells r (outcome.Refused (BadRequest bad))
+
 module _ {S : Type 0} (M : Meaning S) where
   -- one Pass of term 1, kept and committed
   abbrev pub opening_replica : Replica S
   opening_replica = record { term = 1; log = pass_entry ∷ []; commit = 1; value = M.opening; clock = 0 }
 
   -- the entry that the leader makes of a command: it has the time that the leader has reached
-  abbrev pub entry_of : Replica S → Command → Entry
+  abbrev pub entry_of : Replica S → ShardCommand → Entry
   entry_of r command = record { term = r.term; offset = length r.log; time = r.clock; body = body.Command command }
 
   -- the leader with one entry more, which is committed and applied
@@ -43,7 +53,7 @@ module _ {S : Type 0} (M : Meaning S) where
   with_entry r e = record { term = r.term; log = r.log ++ e ∷ []; commit = length r.log + 1; value = after M r.value e; clock = r.clock }
 
   -- a write is kept, and acknowledged with its term, its offset and its reply
-  abbrev pub writes : Replica S → Command → Output S
+  abbrev pub writes : Replica S → ShardCommand → Output S
   writes r command = record {
     state = with_entry r (entry_of r command);
     kept = entry_of r command ∷ [];
@@ -51,10 +61,15 @@ module _ {S : Type 0} (M : Meaning S) where
   }
 
   -- a read is answered from what is committed
-  abbrev pub reads : Replica S → Query → Output S
-  reads r query = record { state = r; kept = []; outcome = outcome.Read r.term r.commit (M.answer r.value query) }
+  abbrev pub reads : Replica S → ShardQuery → Output S
+  reads r query = tells r (outcome.Read r.term r.commit (M.answer r.value query))
+
+  -- a command is refused for its first fault, and else it is written
+  abbrev pub unless_at_fault : Replica S → ShardCommand → Option Bad → Output S
+  unless_at_fault r command (Some bad) = refuses r bad
+  unless_at_fault r command None = writes r command
 
   -- the step of a request
   abbrev pub takes : Replica S → Request → Output S
-  takes r (Write command) = writes r command
+  takes r (Write grouping command) = unless_at_fault r command (M.fault command)
   takes r (Read query) = reads r query

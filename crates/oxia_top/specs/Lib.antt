@@ -1,10 +1,3 @@
-pub mod Spelling
-pub mod Shape
-pub mod Outcome
-pub mod Reading
-pub mod Schedule
-pub mod Store
-pub mod Kept
 pub mod Meaning
 pub mod Shard
 pub mod Leader

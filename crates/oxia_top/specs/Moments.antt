@@ -1,14 +1,14 @@
 -- The moments of a run by their place: the world before event k, counted from 0, and what that event showed.
 use Rattle.std.specs.Prelude.{◌≡◌, ℕ, ◌+◌, ◌≤◌, List, ◌++◌, take, slice_get, Option, Some}
-use Rattle.oxia_top.specs.declared.ops.Reply.{Reply}
-use Rattle.oxia_top.specs.declared.ops.Answer.{Answer}
-use Rattle.oxia_top.specs.declared.schedule.Request.{Request}
-use Rattle.oxia_top.specs.declared.schedule.Event.{Event}
-use Rattle.oxia_top.specs.declared.schedule.Event.TheVariants.{Client}
+use Rattle.ox_ops.specs.declared.reply.ShardReply.{ShardReply}
+use Rattle.ox_ops.specs.declared.answer.ShardAnswer.{ShardAnswer}
+use Rattle.ox_schedule.specs.declared.schedule.Request.{Request}
+use Rattle.ox_schedule.specs.declared.schedule.Event.{Event}
+use Rattle.ox_schedule.specs.declared.schedule.Event.TheVariants.{Client}
+use Rattle.ox_types.specs.declared.refusal.Refusal.{Refusal}
 use Rattle.oxia_top.specs.declared.leader.Entry.{Entry}
 use Rattle.oxia_top.specs.declared.leader.Outcome.TheVariants as outcome
 use Rattle.oxia_top.specs.declared.world.Cause.{Cause}
-use Rattle.oxia_top.specs.declared.world.Origin.{Origin}
 use Rattle.oxia_top.specs.declared.world.Effect.{Effect}
 use Rattle.oxia_top.specs.declared.world.Effect.TheVariants.{Answered}
 use Rattle.oxia_top.specs.Meaning.{Meaning}
@@ -53,14 +53,20 @@ module _ {S : Type 0} (M : Meaning S) (es : List Event) where
     pub comes : ComesAs event arrival shard request
 
   -- event k acknowledges the arrival at the shard
-  pub record Acks (k j arrival shard term offset : ℕ) (reply : Reply) : Type 0 where
+  pub record Acks (k j arrival shard term offset : ℕ) (reply : ShardReply) : Type 0 where
     pub shown : Shows k j (Answered arrival (outcome.Ack term offset reply))
     pub request : Request
     pub came : CameBefore (k + 1) arrival shard request
 
   -- event k answers the arrival, which is a read, from a told prefix
-  pub record Reads (k j arrival shard term prefix : ℕ) (answer : Answer) : Type 0 where
+  pub record Reads (k j arrival shard term prefix : ℕ) (answer : ShardAnswer) : Type 0 where
     pub shown : Shows k j (Answered arrival (outcome.Read term prefix answer))
+    pub request : Request
+    pub came : CameBefore (k + 1) arrival shard request
+
+  -- event k refuses the arrival
+  pub record Refuses (k j arrival shard : ℕ) (refusal : Refusal) : Type 0 where
+    pub shown : Shows k j (Answered arrival (outcome.Refused refusal))
     pub request : Request
     pub came : CameBefore (k + 1) arrival shard request
 

@@ -1,5 +1,5 @@
 -- The origins of the entries of one shard, in the order of the log.
-use Rattle.std.specs.Prelude.{◌≡◌, ℕ, ◌<◌, List, length, slice_get, Some}
+use Rattle.std.specs.Prelude.{◌≡◌, ℕ, List, length, slice_get, Some}
 use Rattle.oxia_top.specs.declared.leader.Entry.{Entry}
 use Rattle.oxia_top.specs.declared.world.Origin.{Origin}
 

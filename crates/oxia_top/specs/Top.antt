@@ -1,13 +1,13 @@
 -- How a command ends.
-use Rattle.std.specs.Prelude.{◌≡◌, ℕ, ◌≤◌, List, [], ◌∷◌, length, take, Option, Some, None, Err, codes, if◌then◌else◌, ◌⊎◌}
+use Rattle.std.specs.Prelude.{◌≡◌, ℕ, ◌≤◌, List, [], ◌∷◌, length, take, Option, Some, None, codes, if◌then◌else◌, ◌⊎◌}
 use Rattle.std.specs.Str.{bytes_eq}
 use Rattle.ox_outside.specs.Stream.{Stream, Appends}
 use Rattle.ox_outside.specs.Causes.{Rose}
 use Rattle.ox_types.specs.declared.ended.LineRule.{LineRule}
 use Rattle.ox_types.specs.declared.ended.Ended.{Ended}
 use Rattle.ox_types.specs.declared.ended.Ended.TheVariants.{Done, Usage, BadLine, ReadFault, WriteFault, NoMemory, InputTooLong}
-use Rattle.oxia_top.specs.declared.schedule.Schedule.{Schedule}
-use Rattle.oxia_top.specs.Schedule.{Spells, schedule_at}
+use Rattle.ox_schedule.specs.declared.schedule.Schedule.{Schedule}
+use Rattle.ox_schedule.specs.Schedule.{SpellsSchedule, IsFirstBadLine}
 use Rattle.oxia_top.specs.Shard.{shard_meaning}
 use Rattle.oxia_top.specs.Legal.{IsLegal}
 use Rattle.oxia_top.specs.Report.{report_of}
@@ -31,7 +31,7 @@ pub record Reports (old new : Stream) (text : List ℕ) : Type 0 where
   pub schedule : Schedule
   pub bytes : List ℕ
   pub read : ReadsToEnd old new bytes
-  pub spelt : Spells bytes schedule
+  pub spelt : SpellsSchedule bytes schedule
   pub told : text ≡ report_of schedule
   pub legal : IsLegal shard_meaning schedule.events
 
@@ -39,8 +39,8 @@ pub record Reports (old new : Stream) (text : List ℕ) : Type 0 where
 pub record ReadsBadLine (old new : Stream) (line : ℕ) (rule : LineRule) : Type 0 where
   pub bytes : List ℕ
   pub read : ReadsToEnd old new bytes
-  pub unspelt : (s : Schedule) → ¬ (Spells bytes s)
-  pub first : schedule_at bytes ≡ Err (line, rule)
+  pub unspelt : (s : Schedule) → ¬ (SpellsSchedule bytes s)
+  pub first : IsFirstBadLine bytes line rule
 
 -- why there is no text to write
 abbrev pub Stops : Stream → Stream → Ended → Type 0
@@ -98,7 +98,7 @@ Ends words o ended = EndsBy (wrong_word words) o ended
 pub record MustReplay (words : List (List ℕ)) (o : Outside) (bytes : List ℕ) (s : Schedule) : Type 0 where
   pub command : wrong_word words ≡ None
   pub known : o.source.told ≡ Some bytes
-  pub spelt : Spells bytes s
+  pub spelt : SpellsSchedule bytes s
   pub short : length bytes ≤ input_limit
   pub reads : ¬ (Rose o.source.faults o.source_after.faults)
   pub writes : ¬ (Rose o.sink.faults o.sink_after.faults)

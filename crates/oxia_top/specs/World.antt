@@ -1,9 +1,9 @@
 -- The world of a run, one event of it, and the run of a schedule.
 use Rattle.std.specs.Prelude.{ℕ, ◌+◌, List, [], ◌∷◌, ◌++◌, length, take, drop, map, Option, Some, None}
-use Rattle.oxia_top.specs.declared.schedule.Event.{Event}
-use Rattle.oxia_top.specs.declared.schedule.Event.TheVariants.{Client}
+use Rattle.ox_schedule.specs.declared.schedule.Event.{Event}
+use Rattle.ox_schedule.specs.declared.schedule.Event.TheVariants.{Client}
+use Rattle.ox_types.specs.declared.log.Head.{Head}
 use Rattle.oxia_top.specs.declared.leader.Entry.{Entry}
-use Rattle.oxia_top.specs.declared.leader.Outcome.{Outcome}
 use Rattle.oxia_top.specs.declared.world.Cause.{Cause}
 use Rattle.oxia_top.specs.declared.world.Cause.TheVariants as cause
 use Rattle.oxia_top.specs.declared.world.Origin.{Origin}
@@ -44,6 +44,11 @@ origin_of shard x e = record { shard = shard; term = e.term; offset = e.offset; 
 abbrev pub kept_effects : {S : Type 0} → Replica S → List Entry → List Effect
 kept_effects r [] = []
 kept_effects r (e ∷ es) = Kept (length (e ∷ es)) (record { term = r.term; count = length r.log }) ∷ []
+
+-- what is seen of a batch of one entry, where one was kept
+abbrev pub one_kept : Option Head → List Effect
+one_kept None = []
+one_kept (Some head) = Kept 1 head ∷ []
 
 -- what is seen of a leader's step behind the arrival: the batch that it kept, and what the client was told
 abbrev pub answer_effects : {S : Type 0} → ℕ → Output S → List Effect

@@ -1,7 +1,7 @@
 // The leader of a shard that is alone in its ensemble: its log, and the store that has applied it.
-use crate::ops::{Answer, Command, Query, Reply};
-use crate::store::Store;
-use ox_types::{List, NoMemory};
+use ox_ops::{ShardAnswer, ShardCommand, ShardQuery, ShardReply};
+use ox_shard::ShardMachine;
+use ox_types::{EntryId, Head, List, NoMemory, Refusal, Term};
 use std::alloc::Global;
 use std::marker::Model;
 
@@ -9,7 +9,7 @@ use std::marker::Model;
 pub enum Body {
     /// The first entry of a leader's term, which changes nothing.
     Pass,
-    Command(Command),
+    Command(ShardCommand),
 }
 
 /// An entry of a log. Its time is in milliseconds.
@@ -21,32 +21,26 @@ pub struct Entry {
     pub body: Body,
 }
 
-/// The term of a log's last entry, and its number of entries.
-#[derive(Clone, Copy, Debug, PartialEq, Eq)]
-pub struct Head {
-    pub term: u64,
-    pub count: u64,
-}
-
 /// What a client is told.
 #[derive(Debug, Drop)]
 pub enum Outcome {
     Ack {
         term: u64,
         offset: u64,
-        reply: Reply,
+        reply: ShardReply,
     },
     Read {
         term: u64,
         prefix: u64,
-        answer: Answer,
+        answer: ShardAnswer,
     },
+    Refused(Refusal),
 }
 
 #[derive(Debug, Drop)]
 pub struct Leader {
     log: List<Entry>,
-    store: Store,
+    store: ShardMachine,
     clock: u64,
 }
 
@@ -54,20 +48,23 @@ pub struct Leader {
 const TERM: u64 = 1;
 
 impl Model for Leader {
-    ghost use Rattle.std.specs.Prelude.{◌<◌, length};
-    ghost use Rattle.oxia_top.specs.Store.{ShardState};
+    ghost use Rattle.std.specs.Prelude.{length};
+    ghost use Rattle.ox_ops.specs.State.{ShardState};
+    ghost use Rattle.ox_shard.specs.Fits.{FitsCount};
     ghost use Rattle.oxia_top.specs.Leader.{Replica};
 
     ghost Value = { Replica ShardState };
 
     ghost view = { λ l. record { term = 1; log = l.log; commit = length l.log; value = l.store; clock = l.clock } };
 
-    // Each stored put has an entry, and so has the opening.
-    ghost invariant = { λ l. l.store.next_version < length l.log };
+    // The entries of the log can have made the store.
+    ghost invariant = { λ l. FitsCount (length l.log) l.store };
 }
 
 impl Leader {
-    ghost use Rattle.std.specs.Prelude.{◌≡◌, ◌<◌, ◌^◌, length, IfOk, OnOk};
+    ghost use Rattle.std.specs.Prelude.{◌≡◌, ◌<◌, ◌^◌, None, length, IsTrue, IfOk};
+    ghost use Rattle.ox_ops.specs.Check.{command_fault};
+    ghost use Rattle.ox_ops.specs.Forms.{command as command_form};
     ghost use Rattle.oxia_top.specs.Shard.{shard_meaning};
     ghost use Rattle.oxia_top.specs.Leader.{opening_replica, writes, reads};
 
@@ -83,7 +80,7 @@ impl Leader {
         })?;
         Ok(Leader {
             log,
-            store: Store::new(alloc),
+            store: ShardMachine::empty(alloc)?,
             clock: 0,
         })
     }
@@ -100,37 +97,43 @@ impl Leader {
         ensures count { result.count ≡ length self.now.log }
     {
         Head {
-            term: TERM,
+            term: Term(TERM),
             count: self.log.len() as u64,
         }
     }
 
-    /// Keeps the command as the next entry, which is committed and applied at once. After an `Err` the leader is of no
-    /// use: its log may be ahead of its store.
-    #[tactic(auto, using(crate::proofs::StoreLemmas::apply_next))]
-    pub fn write(&mut self, command: &Command) -> Result<Outcome, NoMemory>
-        requires room { length self.old.log < 2 ^ 53 }
-        ensures state { OnOk result (self.new ≡ (writes shard_meaning self.old command.now).state) }
-        ensures outcome { IfOk result (λ o. o ≡ (writes shard_meaning self.old command.now).outcome) }
+    /// Keeps the command as the next entry, which is committed and applied at once.
+    pub fn write(self, command: ShardCommand) -> Result<(Leader, Outcome), NoMemory>
+        requires room { length self.log < 2 ^ 53 }
+        requires lawful { IsTrue (command_form.is_lawful command) }
+        requires faultless { command_fault command ≡ None }
+        ensures state { IfOk result (λ x. x.0 ≡ (writes shard_meaning self command).state) }
+        ensures outcome { IfOk result (λ x. x.1 ≡ (writes shard_meaning self command).outcome) }
     {
-        let offset = self.log.len() as u64;
-        let body = Body::Command(command.try_clone()?);
-        self.log.push(Entry {
+        let Leader {
+            mut log,
+            mut store,
+            clock,
+        } = self;
+        let offset = log.len() as u64;
+        let term = Term(TERM);
+        let reply = store.apply(EntryId { term, offset }, clock, &command)?;
+        log.push(Entry {
             term: TERM,
             offset,
-            time: self.clock,
-            body,
+            time: clock,
+            body: Body::Command(command),
         })?;
-        let reply = self.store.apply(self.clock, command)?;
-        Ok(Outcome::Ack {
+        let outcome = Outcome::Ack {
             term: TERM,
             offset,
             reply,
-        })
+        };
+        Ok((Leader { log, store, clock }, outcome))
     }
 
     /// Answers a query from what is committed, which is the whole log.
-    pub fn read(&self, query: &Query) -> Result<Outcome, NoMemory>
+    pub fn read(&self, query: &ShardQuery) -> Result<Outcome, NoMemory>
         ensures outcome { IfOk result (λ o. o ≡ (reads shard_meaning self.now query.now).outcome) }
         ensures whole { self.now.commit ≡ length self.now.log }
     {

@@ -1,46 +1,40 @@
 // The report of a run.
-ghost use Rattle.std.specs.Prelude.{◌≡◌, ◌++◌, ◌<◌, ◌^◌, OnOk, IfOk, IfSome, length, slice_get};
-ghost use Rattle.std.specs.List.{flat_map};
-ghost use Rattle.oxia_top.specs.Schedule.{IsSchedule};
-ghost use Rattle.oxia_top.specs.Report.{report_of, effect_line, event_line, moment_text, cause_of, entry_text, entry_line, history_text};
+ghost use Rattle.std.specs.Prelude.{◌≡◌, ◌++◌, ◌<◌, ◌^◌, true, OnOk, IfOk, IfSome, length, slice_get};
+ghost use Rattle.std.specs.List.{flat_map, list_all};
+ghost use Rattle.ox_schedule.specs.Schedule.{IsSchedule};
+ghost use Rattle.ox_schedule.specs.Lawful.{asks_encodable};
+ghost use Rattle.oxia_top.specs.Report.{report_of, effect_line, numbered_line, cause_of, entry_text, entry_line, history_text};
 ghost use Rattle.oxia_top.specs.Origins.{AreInStep};
 
 use crate::leader::Entry;
-use crate::schedule::{Event, Schedule};
-use crate::text::{add_cause, add_effect_line, add_event, add_field, add_number};
+use crate::text::{add_body, add_effect_line, add_field, add_number};
 use crate::world::{Cause, Effect, Origin, World};
+use ox_schedule::{Event, Schedule, add_event};
 use ox_types::{NoMemory, Octets};
 use std::alloc::Global;
 
-fn add_effects(text: &mut Octets, effects: &[Effect]) -> Result<(), NoMemory>
+fn add_effects(alloc: Global, text: &mut Octets, effects: &[Effect]) -> Result<(), NoMemory>
     ensures { OnOk result (text.new ≡ text.old ++ flat_map effect_line effects.now) }
 {
     for effect in effects {
-        add_effect_line(text, effect)?;
+        add_effect_line(alloc, text, effect)?;
     }
     Ok(())
 }
 
-fn add_event_line(text: &mut Octets, number: u64, event: &Event) -> Result<(), NoMemory>
-    ensures { OnOk result (text.new ≡ text.old ++ event_line number event.now) }
+fn add_event_line(
+    alloc: Global,
+    text: &mut Octets,
+    number: u64,
+    event: &Event,
+) -> Result<(), NoMemory>
+    ensures { OnOk result (text.new ≡ text.old ++ numbered_line number event.now) }
 {
     text.extend(b"@")?;
     add_number(text, number)?;
     text.extend(b" ")?;
-    add_event(text, event)?;
+    add_event(alloc, text, event)?;
     text.extend(b"\n")
-}
-
-fn add_moment(
-    text: &mut Octets,
-    number: u64,
-    event: &Event,
-    effects: &[Effect],
-) -> Result<(), NoMemory>
-    ensures { OnOk result (text.new ≡ text.old ++ moment_text number event.now effects.now) }
-{
-    add_event_line(text, number, event)?;
-    add_effects(text, effects)
 }
 
 fn add_entry(text: &mut Octets, entry: &Entry, cause: Cause) -> Result<(), NoMemory>
@@ -51,7 +45,7 @@ fn add_entry(text: &mut Octets, entry: &Entry, cause: Cause) -> Result<(), NoMem
     add_field(text, entry.term)?;
     add_field(text, entry.time)?;
     text.extend(b" ")?;
-    add_cause(text, &entry.body, cause)?;
+    add_body(text, &entry.body, cause)?;
     text.extend(b"\n")
 }
 
@@ -87,19 +81,22 @@ fn add_history(text: &mut Octets, history: &[Entry], origins: &[Origin]) -> Resu
     add_entries(text, history, origins)
 }
 
-/// Runs the schedule, and gives the report. It costs the text, and for each request a pass over the records.
-pub fn report(alloc: Global, schedule: &Schedule) -> Result<Octets, NoMemory>
-    requires valid { IsSchedule schedule.now }
-    requires few { length schedule.now.events < 2 ^ 53 }
-    ensures { IfOk result (λ text. text ≡ report_of schedule.now) }
+/// Runs the schedule, and gives the report. It costs the run and the text.
+pub fn report(alloc: Global, schedule: Schedule) -> Result<Octets, NoMemory>
+    requires valid { IsSchedule schedule }
+    requires encodable { list_all asks_encodable schedule.events ≡ true }
+    requires few { length schedule.events < 2 ^ 53 }
+    ensures { IfOk result (λ text. text ≡ report_of schedule) }
 {
     let mut text = Octets::new(alloc);
     let mut world = World::opening(alloc)?;
     let mut number = 0u64;
-    for event in schedule.events.as_slice() {
+    for event in schedule.events.into_vec() {
         number += 1;
-        let effects = world.happen(alloc, event)?;
-        add_moment(&mut text, number, event, effects.as_slice())?;
+        add_event_line(alloc, &mut text, number, &event)?;
+        let (next, effects) = world.happen(alloc, event)?;
+        world = next;
+        add_effects(alloc, &mut text, effects.as_slice())?;
     }
     add_history(&mut text, world.history(), world.origins())?;
     Ok(text)

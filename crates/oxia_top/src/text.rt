@@ -1,16 +1,17 @@
-// The text of numbers, records, replies and effects, each added at the end of a text.
-ghost use Rattle.std.specs.Prelude.{◌≡◌, ◌++◌, OnOk, decimal};
-ghost use Rattle.std.specs.List.{join_with_byte};
-ghost use Rattle.oxia_top.specs.Spelling.{value_word, command_words, query_words, request_words, event_words};
-ghost use Rattle.oxia_top.specs.declared.leader.Outcome.TheVariants.{Ack, Read};
-ghost use Rattle.oxia_top.specs.Report.{field, meta_text, reply_text, record_text, answer_text, head_text, outcome_text, kept_text, effect_text, effect_line, what_text, cause_text};
+// The text of what is seen, field by field.
+ghost use Rattle.std.specs.Prelude.{◌≡◌, ◌++◌, OnOk, decimal, codes};
+ghost use Rattle.ox_ops.specs.declared.reply.ShardReply.{ShardReply as ShardReplySpec};
+ghost use Rattle.ox_report.specs.Field.{field};
+ghost use Rattle.oxia_top.specs.declared.leader.Outcome.TheVariants.{Ack, Read, Refused};
+ghost use Rattle.oxia_top.specs.Report.{head_text, outcome_text, kept_text, effect_text, effect_line, by_arrival, command_text, body_text};
 
-use crate::leader::{Body, Head, Outcome};
-use crate::ops::{Answer, Command, Meta, Query, Record, Reply};
-use crate::schedule::{Event, Request};
+use crate::leader::{Body, Outcome};
 use crate::world::{Cause, Effect};
 use itoa::Buffer;
-use ox_types::{NoMemory, Octets, Value};
+use ox_ops::{ShardAnswer, ShardCommand, ShardReply};
+use ox_report::{add_answer, add_refusal, add_replies};
+use ox_types::{Head, NoMemory, Octets, Refusal};
+use std::alloc::Global;
 
 pub fn add_number(text: &mut Octets, number: u64) -> Result<(), NoMemory>
     ensures { OnOk result (text.new ≡ text.old ++ decimal number) }
@@ -26,128 +27,21 @@ pub fn add_field(text: &mut Octets, number: u64) -> Result<(), NoMemory>
     add_number(text, number)
 }
 
-fn add_value(text: &mut Octets, value: &Value) -> Result<(), NoMemory>
-    ensures { OnOk result (text.new ≡ text.old ++ value_word value.now) }
-{
-    let bytes = value.bytes();
-    if bytes.is_empty() {
-        text.extend(b"*")
-    } else {
-        text.extend(bytes)
-    }
-}
-
-fn add_command(text: &mut Octets, command: &Command) -> Result<(), NoMemory>
-    ensures { OnOk result (text.new ≡ text.old ++ join_with_byte 32 (command_words command.now)) }
-{
-    match command {
-        Command::Put { key, value } => {
-            text.extend(b"put ")?;
-            text.extend(key.bytes())?;
-            text.extend(b" ")?;
-            add_value(text, value)
-        }
-    }
-}
-
-fn add_query(text: &mut Octets, query: &Query) -> Result<(), NoMemory>
-    ensures { OnOk result (text.new ≡ text.old ++ join_with_byte 32 (query_words query.now)) }
-{
-    match query {
-        Query::Get { key } => {
-            text.extend(b"get equal ")?;
-            text.extend(key.bytes())
-        }
-    }
-}
-
-fn add_request(text: &mut Octets, request: &Request) -> Result<(), NoMemory>
-    ensures { OnOk result (text.new ≡ text.old ++ join_with_byte 32 (request_words request.now)) }
-{
-    match request {
-        Request::Write(command) => add_command(text, command),
-        Request::Read(query) => add_query(text, query),
-    }
-}
-
-pub fn add_event(text: &mut Octets, event: &Event) -> Result<(), NoMemory>
-    ensures { OnOk result (text.new ≡ text.old ++ join_with_byte 32 (event_words event.now)) }
-{
-    let Event::Client {
-        node,
-        shard,
-        request,
-    } = event;
-    text.extend(b"client")?;
-    add_field(text, *node)?;
-    add_field(text, *shard)?;
-    text.extend(b" ")?;
-    add_request(text, request)
-}
-
-fn add_meta(text: &mut Octets, meta: Meta) -> Result<(), NoMemory>
-    ensures { OnOk result (text.new ≡ text.old ++ meta_text meta) }
-{
-    add_number(text, meta.version)?;
-    add_field(text, meta.modifications)?;
-    add_field(text, meta.created)?;
-    add_field(text, meta.modified)
-}
-
-fn add_reply(text: &mut Octets, reply: &Reply) -> Result<(), NoMemory>
-    ensures { OnOk result (text.new ≡ text.old ++ reply_text reply.now) }
-{
-    match reply {
-        Reply::Stored { key, meta } => {
-            text.extend(b"put ")?;
-            text.extend(key.bytes())?;
-            text.extend(b" ")?;
-            add_meta(text, *meta)
-        }
-        Reply::ShardFull { weight, limit } => {
-            text.extend(b"full")?;
-            add_field(text, *weight)?;
-            add_field(text, *limit)
-        }
-    }
-}
-
-fn add_record(text: &mut Octets, found: &Record) -> Result<(), NoMemory>
-    ensures { OnOk result (text.new ≡ text.old ++ record_text found.now) }
-{
-    text.extend(b"record ")?;
-    text.extend(found.key.bytes())?;
-    text.extend(b" ")?;
-    add_value(text, &found.value)?;
-    text.extend(b" ")?;
-    add_meta(text, found.meta)?;
-    text.extend(b" -")
-}
-
-fn add_answer(text: &mut Octets, answer: &Answer) -> Result<(), NoMemory>
-    ensures { OnOk result (text.new ≡ text.old ++ answer_text answer.now) }
-{
-    let Answer::Got(found) = answer;
-    match found {
-        Some(record) => add_record(text, record),
-        None => text.extend(b"none"),
-    }
-}
-
 fn add_head(text: &mut Octets, head: Head) -> Result<(), NoMemory>
     ensures { OnOk result (text.new ≡ text.old ++ head_text head) }
 {
-    add_number(text, head.term)?;
+    add_number(text, head.term.0)?;
     text.extend(b":")?;
     add_number(text, head.count)
 }
 
 fn add_ack(
+    alloc: Global,
     text: &mut Octets,
     arrival: u64,
     term: u64,
     offset: u64,
-    reply: &Reply,
+    reply: &ShardReply,
 ) -> Result<(), NoMemory>
     ensures { OnOk result (text.new ≡ text.old ++ outcome_text arrival (Ack term offset reply.now)) }
 {
@@ -156,15 +50,16 @@ fn add_ack(
     add_field(text, term)?;
     add_field(text, offset)?;
     text.extend(b" ")?;
-    add_reply(text, reply)
+    add_replies(alloc, text, reply)
 }
 
 fn add_read(
+    alloc: Global,
     text: &mut Octets,
     arrival: u64,
     term: u64,
     prefix: u64,
-    answer: &Answer,
+    answer: &ShardAnswer,
 ) -> Result<(), NoMemory>
     ensures { OnOk result (text.new ≡ text.old ++ outcome_text arrival (Read term prefix answer.now)) }
 {
@@ -173,10 +68,29 @@ fn add_read(
     add_field(text, term)?;
     add_field(text, prefix)?;
     text.extend(b" ")?;
-    add_answer(text, answer)
+    add_answer(alloc, text, answer)
 }
 
-fn add_outcome(text: &mut Octets, arrival: u64, outcome: &Outcome) -> Result<(), NoMemory>
+fn add_refused(
+    alloc: Global,
+    text: &mut Octets,
+    arrival: u64,
+    refusal: &Refusal,
+) -> Result<(), NoMemory>
+    ensures { OnOk result (text.new ≡ text.old ++ outcome_text arrival (Refused refusal.now)) }
+{
+    text.extend(b"refuse")?;
+    add_field(text, arrival)?;
+    text.extend(b" ")?;
+    add_refusal(alloc, text, refusal)
+}
+
+fn add_outcome(
+    alloc: Global,
+    text: &mut Octets,
+    arrival: u64,
+    outcome: &Outcome,
+) -> Result<(), NoMemory>
     ensures { OnOk result (text.new ≡ text.old ++ outcome_text arrival outcome.now) }
 {
     match outcome {
@@ -184,12 +98,13 @@ fn add_outcome(text: &mut Octets, arrival: u64, outcome: &Outcome) -> Result<(),
             term,
             offset,
             reply,
-        } => add_ack(text, arrival, *term, *offset, reply),
+        } => add_ack(alloc, text, arrival, *term, *offset, reply),
         Outcome::Read {
             term,
             prefix,
             answer,
-        } => add_read(text, arrival, *term, *prefix, answer),
+        } => add_read(alloc, text, arrival, *term, *prefix, answer),
+        Outcome::Refused(refusal) => add_refused(alloc, text, arrival, refusal),
     }
 }
 
@@ -202,7 +117,7 @@ fn add_kept(text: &mut Octets, appended: u64, head: Head) -> Result<(), NoMemory
     add_head(text, head)
 }
 
-fn add_effect(text: &mut Octets, effect: &Effect) -> Result<(), NoMemory>
+fn add_effect(alloc: Global, text: &mut Octets, effect: &Effect) -> Result<(), NoMemory>
     ensures { OnOk result (text.new ≡ text.old ++ effect_text effect.now) }
 {
     match effect {
@@ -211,36 +126,49 @@ fn add_effect(text: &mut Octets, effect: &Effect) -> Result<(), NoMemory>
             add_field(text, *arrival)
         }
         Effect::Kept { appended, head } => add_kept(text, *appended, *head),
-        Effect::Answered { arrival, outcome } => add_outcome(text, *arrival, outcome),
+        Effect::Answered { arrival, outcome } => add_outcome(alloc, text, *arrival, outcome),
     }
 }
 
-pub fn add_effect_line(text: &mut Octets, effect: &Effect) -> Result<(), NoMemory>
+pub fn add_effect_line(alloc: Global, text: &mut Octets, effect: &Effect) -> Result<(), NoMemory>
     ensures { OnOk result (text.new ≡ text.old ++ effect_line effect.now) }
 {
     text.extend(b"  ")?;
-    add_effect(text, effect)?;
+    add_effect(alloc, text, effect)?;
     text.extend(b"\n")
 }
 
-fn add_what(text: &mut Octets, command: &Command) -> Result<(), NoMemory>
-    ensures { OnOk result (text.new ≡ text.old ++ what_text command.now) }
+/// A word, and the arrival that an entry comes from.
+fn add_by_arrival(text: &mut Octets, word: &[u8], cause: Cause) -> Result<(), NoMemory>
+    ensures { OnOk result (text.new ≡ text.old ++ by_arrival word.now cause) }
+{
+    text.extend(word)?;
+    match cause {
+        Cause::Opening => Ok(()),
+        Cause::Arrival(arrival) => add_field(text, arrival),
+    }
+}
+
+fn add_command(text: &mut Octets, command: &ShardCommand, cause: Cause) -> Result<(), NoMemory>
+    ensures { OnOk result (text.new ≡ text.old ++ command_text command.now cause) }
 {
     match command {
-        Command::Put { .. } => text.extend(b"write"),
+        ShardCommand::Write(_) => add_by_arrival(text, b"write", cause),
+        ShardCommand::Open { .. } => add_by_arrival(text, b"open", cause),
+        ShardCommand::Close { .. } => add_by_arrival(text, b"close", cause),
+        ShardCommand::Expire { session } => {
+            text.extend(b"expire")?;
+            add_field(text, *session)
+        }
     }
 }
 
 /// What an entry of a history is, and which arrival it came from.
-pub fn add_cause(text: &mut Octets, body: &Body, cause: Cause) -> Result<(), NoMemory>
-    ensures { OnOk result (text.new ≡ text.old ++ cause_text body.now cause) }
+pub fn add_body(text: &mut Octets, body: &Body, cause: Cause) -> Result<(), NoMemory>
+    ensures { OnOk result (text.new ≡ text.old ++ body_text body.now cause) }
 {
-    let Body::Command(command) = body else {
-        return text.extend(b"pass");
-    };
-    add_what(text, command)?;
-    match cause {
-        Cause::Opening => Ok(()),
-        Cause::Arrival(arrival) => add_field(text, arrival),
+    match body {
+        Body::Pass => text.extend(b"pass"),
+        Body::Command(command) => add_command(text, command, cause),
     }
 }

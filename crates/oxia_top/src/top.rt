@@ -1,16 +1,21 @@
 // The top call.
 ghost use Rattle.std.specs.Prelude.{◌≡◌, IfOk, IfErr};
+ghost use Rattle.std.specs.Str.{bytes_eq};
 ghost use Rattle.oxia_top.specs.Top.{Reports, Stops, Replays, Ends, IsComplete, wrong_word as wrong_word_of};
 
-use crate::fault::ScheduleFault;
 use crate::input::{InputFault, read_all};
 use crate::output::write_all;
-use crate::reading::read_schedule;
 use crate::report::report;
-use crate::word::is;
 use ox_outside::{Sink, Source};
+use ox_schedule::{ScheduleFault, law_encodable, read_schedule};
 use ox_types::{Ended, List, Octets};
 use std::alloc::Global;
+
+fn is(word: &[u8], text: &[u8]) -> bool
+    ensures { result ≡ bytes_eq word.now text.now }
+{
+    word == text
+}
 
 /// The index of the first wrong word, or the number of words where one is missing.
 fn wrong_word(words: &[Octets]) -> Option<u64>
@@ -25,7 +30,6 @@ fn wrong_word(words: &[Octets]) -> Option<u64>
 }
 
 /// The report of the schedule that the source gives.
-#[tactic(auto, using(crate::proofs::ScheduleLemmas::every_run_is_legal, crate::proofs::ScheduleLemmas::unspelt))]
 fn answer<S: Source>(alloc: Global, source: &mut S) -> Result<Octets, Ended>
     ensures text { IfOk result (Reports (S.stream source.old) (S.stream source.new)) }
     ensures stops { IfErr result (Stops (S.stream source.old) (S.stream source.new)) }
@@ -41,7 +45,8 @@ fn answer<S: Source>(alloc: Global, source: &mut S) -> Result<Octets, Ended>
         Err(ScheduleFault::BadLine { line, rule }) => return Err(Ended::BadLine { line, rule }),
         Err(ScheduleFault::NoMemory) => return Err(Ended::NoMemory),
     };
-    match report(alloc, &schedule) {
+    law_encodable();
+    match report(alloc, schedule) {
         Ok(text) => Ok(text),
         Err(_) => Err(Ended::NoMemory),
     }

@@ -1,8 +1,12 @@
 // The world of a run: one leader, and what is kept of the requests that came.
-use crate::leader::{Entry, Head, Leader, Outcome};
-use crate::ops::{Command, Query};
-use crate::schedule::{Event, Request};
-use ox_types::{List, NoMemory};
+ghost use Rattle.std.specs.Prelude.{◌≡◌, ◌∷◌, ◌++◌, [], IfOk};
+ghost use Rattle.oxia_top.specs.declared.world.Effect.TheVariants.{Arrival as ArrivalEffect, Answered};
+ghost use Rattle.oxia_top.specs.World.{one_kept};
+
+use crate::leader::{Entry, Leader, Outcome};
+use ox_ops::{ShardCommand, ShardQuery, check};
+use ox_schedule::{Event, Request};
+use ox_types::{Bad, Head, List, NoMemory, Refusal};
 use std::alloc::Global;
 use std::marker::Model;
 
@@ -42,7 +46,7 @@ pub struct World {
 }
 
 impl Model for World {
-    ghost use Rattle.oxia_top.specs.Store.{ShardState};
+    ghost use Rattle.ox_ops.specs.State.{ShardState};
     ghost use Rattle.oxia_top.specs.World.{World as WorldValue};
 
     ghost Value = { WorldValue ShardState };
@@ -50,11 +54,32 @@ impl Model for World {
     ghost view = { λ w. record { replica = w.leader; arrivals = w.arrivals; origins = w.origins; history = w.leader.log } };
 }
 
+/// The effects of an arrival whose client was told the outcome, and of the batch that was kept for it.
+fn effects_of(
+    alloc: Global,
+    arrival: u64,
+    kept: Option<Head>,
+    outcome: Outcome,
+) -> Result<List<Effect>, NoMemory>
+    ensures { IfOk result (λ effects. effects ≡ ArrivalEffect arrival ∷ one_kept kept ++ Answered arrival outcome ∷ []) }
+{
+    let mut effects = List::new(alloc);
+    effects.push(Effect::Arrival { arrival })?;
+    if let Some(head) = kept {
+        effects.push(Effect::Kept { appended: 1, head })?;
+    }
+    effects.push(Effect::Answered { arrival, outcome })?;
+    Ok(effects)
+}
+
 impl World {
-    ghost use Rattle.std.specs.Prelude.{◌≡◌, ◌<◌, ◌^◌, ◌+◌, ◌++◌, ℕ, length, IfOk, OnOk};
+    ghost use Rattle.std.specs.Prelude.{◌≡◌, ◌<◌, ◌^◌, ◌+◌, ℕ, None, length, IsTrue, IfOk};
+    ghost use Rattle.ox_ops.specs.Check.{command_fault};
+    ghost use Rattle.ox_ops.specs.Forms.{command as command_form};
     ghost use Rattle.oxia_top.specs.Shard.{shard_meaning};
-    ghost use Rattle.oxia_top.specs.Leader.{writes, reads, takes};
-    ghost use Rattle.oxia_top.specs.World.{opening_world, happens, comes, answer_effects};
+    ghost use Rattle.oxia_top.specs.Leader.{writes, reads, tells, refuses, unless_at_fault, takes};
+    ghost use Rattle.oxia_top.specs.World.{opening_world, happens, comes};
+    ghost use Rattle.ox_schedule.specs.Lawful.{asks_encodable, is_encodable};
 
     pub fn opening(alloc: Global) -> Result<World, NoMemory>
         ensures { IfOk result (λ w. w ≡ opening_world shard_meaning) }
@@ -87,82 +112,133 @@ impl World {
         self.origins.as_slice()
     }
 
-    /// One event, and what is seen of it. After an `Err` the world is of no use.
+    /// One event, and what is seen of it.
     #[tactic(auto, unfolding(crate::specs::World::happens))]
-    pub fn happen(&mut self, alloc: Global, event: &Event) -> Result<List<Effect>, NoMemory>
-        requires arrivals { self.old.arrivals < 2 ^ 53 }
-        requires room { length self.old.history < 2 ^ 53 }
-        ensures world { OnOk result (self.new ≡ (happens shard_meaning self.old event.now).world) }
-        ensures effects { IfOk result (λ effects. effects ≡ (happens shard_meaning self.old event.now).effects) }
+    pub fn happen(self, alloc: Global, event: Event) -> Result<(World, List<Effect>), NoMemory>
+        requires arrivals { self.arrivals < 2 ^ 53 }
+        requires room { length self.history < 2 ^ 53 }
+        requires lawful { IsTrue (asks_encodable event) }
+        ensures world { IfOk result (λ x. x.0 ≡ (happens shard_meaning self event).world) }
+        ensures effects { IfOk result (λ x. x.1 ≡ (happens shard_meaning self event).effects) }
     {
         match event {
-            Event::Client { shard, request, .. } => self.come(alloc, *shard, request),
+            Event::Client { shard, request, .. } => self.come(alloc, shard, request),
         }
     }
 
     /// A request comes to a shard.
     fn come(
-        &mut self,
+        self,
         alloc: Global,
         shard: u64,
-        request: &Request,
-    ) -> Result<List<Effect>, NoMemory>
-        requires arrivals { self.old.arrivals < 2 ^ 53 }
-        requires room { length self.old.history < 2 ^ 53 }
-        ensures world { OnOk result (self.new ≡ (comes self.old shard (self.old.arrivals + 1) (takes shard_meaning self.old.replica request.now)).world) }
-        ensures effects { IfOk result (λ effects. effects ≡ (comes self.old shard (self.old.arrivals + 1) (takes shard_meaning self.old.replica request.now)).effects) }
+        request: Request,
+    ) -> Result<(World, List<Effect>), NoMemory>
+        requires arrivals { self.arrivals < 2 ^ 53 }
+        requires room { length self.history < 2 ^ 53 }
+        requires lawful { IsTrue (is_encodable request) }
+        ensures world { IfOk result (λ x. x.0 ≡ (comes self shard (self.arrivals + 1) (takes shard_meaning self.replica request)).world) }
+        ensures effects { IfOk result (λ x. x.1 ≡ (comes self shard (self.arrivals + 1) (takes shard_meaning self.replica request)).effects) }
     {
-        let arrival = self.arrivals + 1;
-        let mut effects = List::new(alloc);
-        effects.push(Effect::Arrival { arrival })?;
         match request {
-            Request::Write(command) => self.write(&mut effects, shard, arrival, command)?,
-            Request::Read(query) => self.read(&mut effects, arrival, query)?,
+            Request::Write { command, .. } => self.come_to_write(alloc, shard, command),
+            Request::Read(query) => self.read(alloc, &query),
         }
-        Ok(effects)
+    }
+
+    /// A command comes to a shard.
+    fn come_to_write(
+        self,
+        alloc: Global,
+        shard: u64,
+        command: ShardCommand,
+    ) -> Result<(World, List<Effect>), NoMemory>
+        requires arrivals { self.arrivals < 2 ^ 53 }
+        requires room { length self.history < 2 ^ 53 }
+        requires lawful { IsTrue (command_form.is_lawful command) }
+        ensures world { IfOk result (λ x. x.0 ≡ (comes self shard (self.arrivals + 1) (unless_at_fault shard_meaning self.replica command (command_fault command))).world) }
+        ensures effects { IfOk result (λ x. x.1 ≡ (comes self shard (self.arrivals + 1) (unless_at_fault shard_meaning self.replica command (command_fault command))).effects) }
+    {
+        match check(alloc, &command)? {
+            Some(bad) => self.refuse(alloc, bad),
+            None => self.write(alloc, shard, command),
+        }
     }
 
     fn write(
-        &mut self,
-        effects: &mut List<Effect>,
+        self,
+        alloc: Global,
         shard: u64,
-        arrival: u64,
-        command: &Command,
-    ) -> Result<(), NoMemory>
-        requires room { length self.old.history < 2 ^ 53 }
-        ensures world { OnOk result (self.new ≡ (comes self.old shard arrival (writes shard_meaning self.old.replica command.now)).world) }
-        ensures effects { OnOk result (effects.new ≡ effects.old ++ answer_effects arrival (writes shard_meaning self.old.replica command.now)) }
+        command: ShardCommand,
+    ) -> Result<(World, List<Effect>), NoMemory>
+        requires arrivals { self.arrivals < 2 ^ 53 }
+        requires room { length self.history < 2 ^ 53 }
+        requires lawful { IsTrue (command_form.is_lawful command) }
+        requires faultless { command_fault command ≡ None }
+        ensures world { IfOk result (λ x. x.0 ≡ (comes self shard (self.arrivals + 1) (writes shard_meaning self.replica command)).world) }
+        ensures effects { IfOk result (λ x. x.1 ≡ (comes self shard (self.arrivals + 1) (writes shard_meaning self.replica command)).effects) }
     {
-        let head = self.leader.head();
-        let outcome = self.leader.write(command)?;
-        self.origins.push(Origin {
+        let World {
+            leader,
+            arrivals,
+            mut origins,
+        } = self;
+        let arrival = arrivals + 1;
+        let before = leader.head();
+        let (leader, outcome) = leader.write(command)?;
+        origins.push(Origin {
             shard,
-            term: head.term,
-            offset: head.count,
+            term: before.term.0,
+            offset: before.count,
             cause: Cause::Arrival(arrival),
         })?;
-        self.arrivals = arrival;
-        let head = Head {
-            term: head.term,
-            count: head.count + 1,
-        };
-        effects.push(Effect::Kept { appended: 1, head })?;
-        effects.push(Effect::Answered { arrival, outcome })?;
-        Ok(())
+        let effects = effects_of(alloc, arrival, Some(leader.head()), outcome)?;
+        Ok((
+            World {
+                leader,
+                arrivals: arrival,
+                origins,
+            },
+            effects,
+        ))
     }
 
-    fn read(
-        &mut self,
-        effects: &mut List<Effect>,
-        arrival: u64,
-        query: &Query,
-    ) -> Result<(), NoMemory>
-        ensures world { OnOk result ((shard : ℕ) → self.new ≡ (comes self.old shard arrival (reads shard_meaning self.old.replica query.now)).world) }
-        ensures effects { OnOk result (effects.new ≡ effects.old ++ answer_effects arrival (reads shard_meaning self.old.replica query.now)) }
+    fn refuse(self, alloc: Global, bad: Bad) -> Result<(World, List<Effect>), NoMemory>
+        requires arrivals { self.arrivals < 2 ^ 53 }
+        ensures world { (shard : ℕ) → IfOk result (λ x. x.0 ≡ (comes self shard (self.arrivals + 1) (refuses self.replica bad)).world) }
+        ensures effects { (shard : ℕ) → IfOk result (λ x. x.1 ≡ (comes self shard (self.arrivals + 1) (refuses self.replica bad)).effects) }
+    {
+        self.tell(alloc, Outcome::Refused(Refusal::BadRequest(bad)))
+    }
+
+    fn read(self, alloc: Global, query: &ShardQuery) -> Result<(World, List<Effect>), NoMemory>
+        requires arrivals { self.arrivals < 2 ^ 53 }
+        ensures world { (shard : ℕ) → IfOk result (λ x. x.0 ≡ (comes self shard (self.arrivals + 1) (reads shard_meaning self.replica query.now)).world) }
+        ensures effects { (shard : ℕ) → IfOk result (λ x. x.1 ≡ (comes self shard (self.arrivals + 1) (reads shard_meaning self.replica query.now)).effects) }
     {
         let outcome = self.leader.read(query)?;
-        self.arrivals = arrival;
-        effects.push(Effect::Answered { arrival, outcome })?;
-        Ok(())
+        self.tell(alloc, outcome)
+    }
+
+    /// The client of the next arrival is told the outcome, and nothing else changes.
+    fn tell(self, alloc: Global, outcome: Outcome) -> Result<(World, List<Effect>), NoMemory>
+        requires arrivals { self.arrivals < 2 ^ 53 }
+        ensures world { (shard : ℕ) → IfOk result (λ x. x.0 ≡ (comes self shard (self.arrivals + 1) (tells self.replica outcome)).world) }
+        ensures effects { (shard : ℕ) → IfOk result (λ x. x.1 ≡ (comes self shard (self.arrivals + 1) (tells self.replica outcome)).effects) }
+    {
+        let World {
+            leader,
+            arrivals,
+            origins,
+        } = self;
+        let arrival = arrivals + 1;
+        let effects = effects_of(alloc, arrival, None, outcome)?;
+        Ok((
+            World {
+                leader,
+                arrivals: arrival,
+                origins,
+            },
+            effects,
+        ))
     }
 }

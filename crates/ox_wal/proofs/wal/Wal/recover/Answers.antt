@@ -1,4 +1,4 @@
-use Rattle.std.proofs.Common.{◌∙◌, inl, inr, sym, refl}
+use Rattle.std.proofs.Common.{◌≡◌, ◌∙◌, inl, inr, sym, refl, ap, arith}
 use Rattle.ox_outside.specs.Disk.{Quiet}
 use Rattle.ox_wal.specs.State.{state_of}
 use Rattle.ox_wal.proofs.Recovering.{quiet_on}
@@ -110,3 +110,59 @@ returns-in-Err-Damaged-default-default-clause-found_err g c = λ state told stan
       | inl holds ↦ absurd (not_damaged _ f.half f.at f.field-0-0-is (f.ensures.held_err holds.payloads told holds.holds))
       | inr dead ↦ absurd (neither_not_damaged _ f.half f.at (f.ensures.damaged told f.half f.at f.field-0-0-is) (dead_neither (g.D.Disk.shows c.args.first) (g.D.Disk.shows c.args.second) dead.0 dead.1))
     ]
+
+pub returns-in-Ok-clause-later_zero : goal.returns-in-Ok-clause-later_zero
+returns-in-Ok-clause-later_zero g c =
+    if_ok c.replay.result c.replay.ensures.later
+    (λ w m is.
+    let was = c.in-Ok.ensures.zero (sym m.0 ∙ is) in
+    let same : g.D.Disk.faults w.journal.spare ≡ g.D.Disk.faults c.in-Ok.journal.spare = ap g.D.Disk.faults m.1 in
+    (omega (arith, was.0, m.2), omega (arith, was.1, same)))
+
+pub returns-in-Ok-clause-later_one : goal.returns-in-Ok-clause-later_one
+returns-in-Ok-clause-later_one g c =
+    if_ok c.replay.result c.replay.ensures.later
+    (λ w m is.
+    let was = c.in-Ok.ensures.one (sym m.0 ∙ is) in
+    let same : g.D.Disk.faults w.journal.spare ≡ g.D.Disk.faults c.in-Ok.journal.spare = ap g.D.Disk.faults m.1 in
+    (omega (arith, was.0, m.2), omega (arith, was.1, same)))
+
+pub returns-in-Ok-clause-later_err : goal.returns-in-Ok-clause-later_err
+returns-in-Ok-clause-later_err g c =
+    let j = c.in-Ok.journal in
+    elim (half_cases j.half j.halves) [
+      | inl is ↦ if_err c.replay.result c.replay.ensures.zero
+          (λ e h.
+          let was = c.in-Ok.ensures.zero is in
+          let z = h is in
+          let same : g.D.Disk.faults e.2 ≡ g.D.Disk.faults j.spare = ap g.D.Disk.faults z.0 in
+          (omega (arith, was.0, z.1), omega (arith, was.1, same)))
+      | inr is ↦ if_err c.replay.result c.replay.ensures.one
+          (λ e h.
+          let was = c.in-Ok.ensures.one is in
+          let z = h is in
+          let same : g.D.Disk.faults e.1 ≡ g.D.Disk.faults j.spare = ap g.D.Disk.faults z.0 in
+          (omega (arith, was.1, same), omega (arith, was.0, z.1)))
+    ]
+
+pub returns-in-Err-Unformatted-default-default-clause-later_zero : goal.returns-in-Err-Unformatted-default-default-clause-later_zero
+returns-in-Err-Unformatted-default-default-clause-later_zero g c =
+    let f = c.in-Err-Unformatted-default-default in
+    if_ok c.begin.result c.begin.ensures.later
+    (λ w m is.
+    let was = f.ensures.later_err in
+    let same : g.D.Disk.faults w.journal.spare ≡ g.D.Disk.faults f.second = ap g.D.Disk.faults m.1 in
+    (omega (arith, was.0, m.2), omega (arith, was.1, same)))
+
+pub returns-in-Err-Unformatted-default-default-clause-later_one : goal.returns-in-Err-Unformatted-default-default-clause-later_one
+returns-in-Err-Unformatted-default-default-clause-later_one g c =
+    if_ok c.begin.result c.begin.ensures.later (λ w m is. absurd (omega (arith, m.0, is)))
+
+pub returns-in-Err-Unformatted-default-default-clause-later_err : goal.returns-in-Err-Unformatted-default-default-clause-later_err
+returns-in-Err-Unformatted-default-default-clause-later_err g c =
+    let f = c.in-Err-Unformatted-default-default in
+    if_err c.begin.result c.begin.ensures.later_err
+    (λ e m.
+    let was = f.ensures.later_err in
+    let same : g.D.Disk.faults e.2 ≡ g.D.Disk.faults f.second = ap g.D.Disk.faults m.0 in
+    (omega (arith, was.0, m.1), omega (arith, was.1, same)))

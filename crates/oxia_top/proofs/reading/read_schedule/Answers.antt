@@ -1,8 +1,0 @@
-use Rattle.oxia_top.proofs.ScheduleLemmas.{answers_found, answers_only}
-use Rattle.oxia_top.proofs.reading.read_schedule.Goals as goal
-
-pub returns-clause-found : goal.returns-clause-found
-returns-clause-found c = answers_found c.args.bytes.now c.read_all.result c.read_all.ensures.exact
-
-pub returns-clause-only : goal.returns-clause-only
-returns-clause-only c = answers_only c.args.bytes.now c.read_all.result c.read_all.ensures.exact

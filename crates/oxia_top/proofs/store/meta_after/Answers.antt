@@ -1,8 +1,0 @@
-use Rattle.std.proofs.Common.{◌<◌, arith, ap}
-use Rattle.std.specs.Option.{option_copied}
-use Rattle.oxia_top.proofs.store.meta_after.Goals as goal
-
-pub overflow_add-result : goal.overflow_add-result
-overflow_add-result c =
-    let lower : c.in-Some.old.now.meta.modifications < c.args.version = c.requires c.in-Some.old.now (ap option_copied c.in-Some.is) in
-    omega arith
