@@ -1,0 +1,4 @@
+pub mod Changes
+pub mod Facts
+pub mod Merges
+pub mod Places
