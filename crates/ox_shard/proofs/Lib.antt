@@ -4,6 +4,7 @@ mod Keeping
 mod Keys
 mod Leaving
 mod Loops
+mod Machines
 mod Opened
 mod Pages
 mod Puts

@@ -8,6 +8,7 @@ mod lists;
 mod machine;
 mod parts;
 mod reading;
+mod replicated;
 mod writing;
 
 pub use laws::states_fit_greater_counts;

@@ -4,6 +4,8 @@
 #[cfg(test)]
 mod both;
 #[cfg(test)]
+mod machine;
+#[cfg(test)]
 mod row;
 #[cfg(test)]
 mod tests;
