@@ -1,5 +1,5 @@
 -- A batch that is read is the one that was written, and the other way round.
-use Rattle.std.proofs.Common.{◌+◌, ◌≡◌, ◌∙◌, ◌<◌, ℕ, ◌++◌, Bool, true, false, not, ◌&&◌, eqb, cond, List, [], ◌∷◌, length, map, codes, Ok, inl, inr, refl, sym, ap, subst, arith, append_assoc}
+use Rattle.std.proofs.Common.{◌+◌, ◌≡◌, ◌∙◌, ◌<◌, ℕ, ◌++◌, Bool, true, false, not, ◌&&◌, eqb, cond, List, [], ◌∷◌, length, map, codes, Option, Some, None, Ok, inl, inr, refl, sym, ap, subst, arith, append_assoc}
 use Rattle.std.specs.Str.{bytes_eq}
 use Rattle.std.specs.List.{list_all, onto_first}
 use Rattle.std.proofs.lemmas.Bool.{eqb-true, ne_eqb}
@@ -12,15 +12,17 @@ use Rattle.ox_order.specs.declared.range.Lo.TheVariants.{Start, At, Past}
 use Rattle.ox_order.specs.declared.range.Hi.{Hi}
 use Rattle.ox_order.specs.declared.range.Hi.TheVariants.{End, Before}
 use Rattle.ox_ops.specs.declared.write.Expect.TheVariants.{Any, Absent, Exactly}
+use Rattle.ox_ops.specs.declared.write.IndexEntry.{IndexEntry}
 use Rattle.ox_ops.specs.declared.write.Put.{Put}
 use Rattle.ox_ops.specs.declared.write.Delete.{Delete}
 use Rattle.ox_order.specs.declared.range.KeyRange.{KeyRange}
 use Rattle.ox_ops.specs.declared.write.WriteBatch.{WriteBatch}
 use Rattle.ox_schedule.specs.Shape.{ops_in}
-use Rattle.ox_schedule.specs.Spelling.{spelt, value_word, is_empty, expect_words, lo_word, hi_word, is_put, is_delete, is_range, put_op, delete_op, range_op, batch_ops, joined, are_lawful}
+use Rattle.ox_schedule.specs.Spelling.{spelt, value_word, is_empty, expect_words, session_words, deltas_words, entry_word, put_options, lo_word, hi_word, is_put, is_delete, is_range, put_op, delete_op, range_op, batch_ops, joined, are_lawful}
 use Rattle.ox_schedule.specs.Reading.{op_onto, ops_onto, batch_of, empty_batch, with_put, with_delete, with_range}
 use Rattle.ox_schedule.proofs.Words.{both, two, same_bytes, no_mark, some_word}
-use Rattle.ox_schedule.proofs.Fields.{no_items, bind_ok, chosen, word_is, put_is, put_again, delete_is, delete_again, range_is, range_again}
+use Rattle.ox_schedule.proofs.Steps.{bind_ok, chosen, word_is}
+use Rattle.ox_schedule.proofs.Fields.{no_items, put_is, put_again, delete_is, delete_again, range_is, range_again}
 
 -- ---- what is read
 
@@ -206,8 +208,29 @@ free_hi : (hi : Hi) → bytes_eq (hi_word hi) (codes "+") ≡ false
 free_hi End = refl
 free_hi (Before key) = free_key key
 
+free_session : (s : Option ℕ) → is_free (session_words s) ≡ true
+free_session None = refl
+free_session (Some n) = refl
+
+free_deltas : (ds : List ℕ) → is_free (deltas_words ds) ≡ true
+free_deltas [] = refl
+free_deltas (d ∷ ds) = refl
+
+free_entries : (es : List IndexEntry) → is_free (map entry_word es) ≡ true
+free_entries [] = refl
+free_entries (e ∷ es) = free_entries es
+
+free_both : (a b : List (List ℕ)) → is_free a ≡ true → is_free b ≡ true → is_free (a ++ b) ≡ true
+free_both a b h k = list_all-append (λ w. not (bytes_eq w (codes "+"))) a b ∙ two _ _ h k
+
+free_options : (p : Put) → is_free (put_options p) ≡ true
+free_options p =
+    free_both (expect_words p.expect) (session_words p.session ++ (deltas_words p.deltas ++ map entry_word p.indexes)) (free_expect p.expect)
+    (free_both (session_words p.session) (deltas_words p.deltas ++ map entry_word p.indexes) (free_session p.session)
+    (free_both (deltas_words p.deltas) (map entry_word p.indexes) (free_deltas p.deltas) (free_entries p.indexes)))
+
 free_put : (p : Put) → is_free (put_op p) ≡ true
-free_put p = rw (free_key p.key, free_value p.value) (free_expect p.expect)
+free_put p = rw (free_key p.key, free_value p.value) (free_options p)
 
 free_delete : (d : Delete) → is_free (delete_op d) ≡ true
 free_delete d = rw (free_key d.key) (free_expect d.expect)

@@ -1,6 +1,5 @@
 -- An event that is read is the one that was written, and the other way round.
-use Rattle.std.proofs.Common.{◌≡◌, ◌∙◌, ℕ, suc, ◌++◌, Bool, true, ◌&&◌, leb, cond, List, [], ◌∷◌, length, map, codes, decimal, None, Ok, Err, inl, inr, refl, ap, subst, arith}
-use Rattle.std.specs.Prelude.{is_none}
+use Rattle.std.proofs.Common.{◌≡◌, ◌∙◌, ℕ, suc, ◌++◌, Bool, true, ◌&&◌, leb, cond, List, [], ◌∷◌, length, map, codes, decimal, Option, Some, None, Ok, Err, inl, inr, refl, ap, subst, arith}
 use Rattle.std.specs.Str.{bytes_eq}
 use Rattle.std.specs.List.{list_all}
 use Rattle.std.proofs.lemmas.List.Folds.{list_all-append}
@@ -20,20 +19,59 @@ use Rattle.ox_schedule.specs.declared.schedule.Grouping.TheVariants as grouping
 use Rattle.ox_schedule.specs.declared.schedule.Request.{Request}
 use Rattle.ox_schedule.specs.declared.schedule.Request.TheVariants.{Write, Read}
 use Rattle.ox_schedule.specs.declared.schedule.Event.{Event}
-use Rattle.ox_schedule.specs.declared.schedule.Event.TheVariants.{Client}
+use Rattle.ox_schedule.specs.declared.schedule.Event.TheVariants.{Client, Tick}
 use Rattle.ox_schedule.specs.declared.schedule.Places.{Places}
 use Rattle.ox_schedule.specs.Outcome.{◌>>=◌}
-use Rattle.ox_schedule.specs.Shape.{op_fits, write_fits, request_fits, event_fits, is_compare}
-use Rattle.ox_schedule.specs.Spelling.{is_number, is_node, is_shard, is_put, is_delete, is_range, is_request, is_event, put_op, delete_op, range_op, batch_ops, joined, are_lawful, expect_words, compare_word, request_words, event_words}
-use Rattle.ox_schedule.specs.Reading.{word_at, number_of, empty_batch, with_put, with_delete, with_range, op_onto, request_of, node_at, shard_at, client_of, event_of}
+use Rattle.ox_schedule.specs.Shape.{op_fits, write_fits, get_fits, range_fits, single_fits, request_fits, event_fits, is_compare}
+use Rattle.ox_schedule.specs.Spelling.{is_number, is_node, is_shard, is_put, is_delete, is_range, is_request, is_event, put_op, delete_op, range_op, batch_ops, joined, are_lawful, spelt, range_words, by_words, put_options, expect_words, compare_word, request_words, event_words}
+use Rattle.ox_schedule.specs.Reading.{word_at, number_of, empty_batch, with_put, with_delete, with_range, op_onto, alone_of, request_of, node_at, shard_at, client_of, tick_of, event_of}
 use Rattle.ox_schedule.proofs.Words.{both, two, number_is, number_again}
-use Rattle.ox_schedule.proofs.Fields.{bind_ok, chosen, word_is, no_value, put_again, delete_again, range_is, range_again, get_is, get_again}
+use Rattle.ox_schedule.proofs.Steps.{bind_ok, chosen, word_is}
+use Rattle.ox_schedule.proofs.Fields.{put_again, delete_again, range_again, ends_is, ends_again, get_is, get_again, single_is, single_again, notices_is, notices_again}
 use Rattle.ox_schedule.proofs.BatchLemmas.{verb_is, batch_is, batch_again, batch_split, alone_is, alone_cases}
 
 -- ---- requests
 
 abbrev IsRead : List (List ℕ) → Request → Type 0
 IsRead ws r = (ws ≡ request_words r) × (is_request r ≡ true)
+
+others_is : (ws : List (List ℕ)) (r : Request) → alone_of ws ≡ Ok r → (ws ≡ request_words r) × (is_request r ≡ true)
+unfolding alone_of
+others_is ws r h =
+    let w = bind_ok _ _ _ h in
+    let word = word_is ws w.0 w.1 in
+    elim (chosen (bytes_eq w.0.0 (codes "notices")) _ _ _ w.2) [
+      | inl x ↦
+          let p = bind_ok _ _ _ x.1 in
+          let it : Read p.0 ≡ r = cc (p.2) in
+          let s = notices_is w.0.1 p.0 p.1 in
+          subst (λ (q : Request). IsRead ws q) it (verb_is ws w.0.0 _ w.0.1 _ word x.0 refl ∙ s.0, s.1)
+      | inr x ↦ elim (chosen (bytes_eq w.0.0 (codes "open")) _ _ _ x.1) [
+        | inl x ↦
+            let p = bind_ok _ _ _ x.1 in
+            let it : Write grouping.Alone (command.Open p.0) ≡ r = cc (p.2) in
+            let s = single_is w.0.1 p.0 p.1 in
+            subst (λ (q : Request). IsRead ws q) it (verb_is ws w.0.0 _ w.0.1 _ word x.0 s.0, two true _ refl s.1)
+        | inr x ↦ elim (chosen (bytes_eq w.0.0 (codes "close")) _ _ _ x.1) [
+          | inl x ↦
+              let p = bind_ok _ _ _ x.1 in
+              let it : Write grouping.Alone (command.Close p.0) ≡ r = cc (p.2) in
+              let s = single_is w.0.1 p.0 p.1 in
+              subst (λ (q : Request). IsRead ws q) it (verb_is ws w.0.0 _ w.0.1 _ word x.0 s.0, two true _ refl s.1)
+          | inr x ↦ elim (chosen (bytes_eq w.0.0 (codes "keep")) _ _ _ x.1) [
+            | inl x ↦
+                let p = bind_ok _ _ _ x.1 in
+                let it : Read (query.KeepAlive p.0) ≡ r = cc (p.2) in
+                let s = single_is w.0.1 p.0 p.1 in
+                subst (λ (q : Request). IsRead ws q) it (verb_is ws w.0.0 _ w.0.1 _ word x.0 s.0, s.1)
+            | inr x ↦
+                let p = bind_ok _ _ _ x.1 in
+                let it : Write grouping.Alone (command.Write p.0) ≡ r = cc (p.2) in
+                subst (λ (q : Request). IsRead ws q) it (alone_is ws p.0 p.1)
+          ]
+        ]
+      ]
+    ]
 
 pub request_is : (ws : List (List ℕ)) (r : Request) → request_of ws ≡ Ok r → (ws ≡ request_words r) × (is_request r ≡ true)
 unfolding request_of
@@ -55,19 +93,16 @@ request_is ws r h =
         | inr x ↦ elim (chosen (bytes_eq w.0.0 (codes "list")) _ _ _ x.1) [
           | inl x ↦
               let p = bind_ok _ _ _ x.1 in
-              let it : Read (query.List p.0 None) ≡ r = cc (p.2) in
-              let s = range_is w.0.1 p.0 p.1 in
-              subst (λ (q : Request). IsRead ws q) it (verb_is ws w.0.0 _ w.0.1 _ word x.0 s.0, two _ _ s.1 refl)
+              let it : Read (query.List p.0.0 p.0.1) ≡ r = cc (p.2) in
+              let s = ends_is w.0.1 p.0 p.1 in
+              subst (λ (q : Request). IsRead ws q) it (verb_is ws w.0.0 _ w.0.1 _ word x.0 s.0, s.1)
           | inr x ↦ elim (chosen (bytes_eq w.0.0 (codes "scan")) _ _ _ x.1) [
             | inl x ↦
                 let p = bind_ok _ _ _ x.1 in
-                let it : Read (query.Scan p.0 None) ≡ r = cc (p.2) in
-                let s = range_is w.0.1 p.0 p.1 in
-                subst (λ (q : Request). IsRead ws q) it (verb_is ws w.0.0 _ w.0.1 _ word x.0 s.0, two _ _ s.1 refl)
-            | inr x ↦
-                let p = bind_ok _ _ _ x.1 in
-                let it : Write grouping.Alone (command.Write p.0) ≡ r = cc (p.2) in
-                subst (λ (q : Request). IsRead ws q) it (alone_is ws p.0 p.1)
+                let it : Read (query.Scan p.0.0 p.0.1) ≡ r = cc (p.2) in
+                let s = ends_is w.0.1 p.0 p.1 in
+                subst (λ (q : Request). IsRead ws q) it (verb_is ws w.0.0 _ w.0.1 _ word x.0 s.0, s.1)
+            | inr x ↦ others_is ws r x.1
           ]
         ]
       ]
@@ -77,29 +112,31 @@ abbrev IsReadAlone : WriteBatch → Type 0
 IsReadAlone b = request_of (joined (batch_ops b)) ≡ Ok (Write grouping.Alone (command.Write b))
 
 alone_put : (p : Put) → is_put p ≡ true → IsReadAlone (with_put empty_batch p)
-unfolding request_of op_onto
+unfolding request_of alone_of op_onto
 alone_put p h = rw (put_again p h) refl
 
 alone_delete : (d : Delete) → is_delete d ≡ true → IsReadAlone (with_delete empty_batch d)
-unfolding request_of op_onto
+unfolding request_of alone_of op_onto
 alone_delete d h = rw (delete_again d h) refl
 
 alone_range : (r : KeyRange) → is_range r ≡ true → IsReadAlone (with_range empty_batch r)
-unfolding request_of op_onto
+unfolding request_of alone_of op_onto
 alone_range r h = rw (range_again r h) refl
 
 pub request_again : (r : Request) → is_request r ≡ true → request_of (request_words r) ≡ Ok r
-unfolding request_of
+unfolding request_of alone_of
 request_again (Write grouping.Alone (command.Write b)) h = let x = both (are_lawful b) _ h in alone_cases IsReadAlone alone_put alone_delete alone_range b x.0 x.1
 request_again (Write grouping.Batch (command.Write b)) h = let x = both (are_lawful b) _ h in rw (batch_again b x.0 x.1) refl
-request_again (Write g (command.Open n)) h = absurd cc
-request_again (Write g (command.Close n)) h = absurd cc
+request_again (Write grouping.Alone (command.Open n)) h = rw (single_again n h) refl
+request_again (Write grouping.Alone (command.Close n)) h = rw (single_again n h) refl
+request_again (Write grouping.Batch (command.Open n)) h = absurd cc
+request_again (Write grouping.Batch (command.Close n)) h = absurd cc
 request_again (Write g (command.Expire n)) h = absurd cc
-request_again (Read (query.Get c key by)) h = let x = both _ (is_none by) h in rw (get_again c key x.0, no_value by x.1) refl
-request_again (Read (query.List r by)) h = let x = both _ (is_none by) h in rw (range_again r x.0, no_value by x.1) refl
-request_again (Read (query.Scan r by)) h = let x = both _ (is_none by) h in rw (range_again r x.0, no_value by x.1) refl
-request_again (Read (query.Notices n skip)) h = absurd cc
-request_again (Read (query.KeepAlive n)) h = absurd cc
+request_again (Read (query.Get c key by)) h = rw (get_again c key by h) refl
+request_again (Read (query.List r by)) h = rw (ends_again r by h) refl
+request_again (Read (query.Scan r by)) h = rw (ends_again r by h) refl
+request_again (Read (query.Notices past skip)) h = rw (notices_again past skip h) refl
+request_again (Read (query.KeepAlive n)) h = rw (single_again n h) refl
 
 -- ---- events
 
@@ -143,31 +180,56 @@ client_is places ws e h =
     subst (λ (q : Event). (codes "client" ∷ ws ≡ event_words q) × (is_event places q ≡ true)) it
     (ap (λ (t : List (List ℕ)). codes "client" ∷ t) words, two _ _ (two _ _ (two _ _ (two _ _ node.1 node.2) shard.1) shard.2) asked.1)
 
+tick_is : (places : Places) (ws : List (List ℕ)) (e : Event) → tick_of places ws ≡ Ok e → (codes "tick" ∷ ws ≡ event_words e) × (is_event places e ≡ true)
+unfolding tick_of
+tick_is places ws e h =
+    let n = bind_ok _ _ _ h in
+    let s = bind_ok _ _ _ n.2 in
+    let t = bind_ok _ _ _ s.2 in
+    let node = node_is places ws n.0 n.1 in
+    let shard = shard_is places n.0.1 s.0 s.1 in
+    let time = single_is s.0.1 t.0 t.1 in
+    let it : Tick n.0.0 s.0.0 t.0 ≡ e = cc (t.2) in
+    let words : ws ≡ decimal n.0.0 ∷ decimal s.0.0 ∷ decimal t.0 ∷ [] = node.0 ∙ ap (λ (t : List (List ℕ)). decimal n.0.0 ∷ t) (shard.0 ∙ ap (λ (t : List (List ℕ)). decimal s.0.0 ∷ t) time.0) in
+    subst (λ (q : Event). (codes "tick" ∷ ws ≡ event_words q) × (is_event places q ≡ true)) it
+    (ap (λ (t : List (List ℕ)). codes "tick" ∷ t) words, two _ _ (two _ _ (two _ _ (two _ _ node.1 node.2) shard.1) shard.2) time.1)
+
 pub event_found : (places : Places) (ws : List (List ℕ)) (e : Event) → event_of places ws ≡ Ok e → (ws ≡ event_words e) × (is_event places e ≡ true)
 unfolding event_of
 event_found places ws e h =
-    let w = bind_ok (word_at ws) (λ w. cond (bytes_eq w.0 (codes "client")) (client_of places w.1) (Err rule.Word)) e h in
-    elim (chosen (bytes_eq w.0.0 (codes "client")) (client_of places w.0.1) (Err rule.Word) (Ok e) w.2) [
+    let w = bind_ok (word_at ws) (λ w. cond (bytes_eq w.0 (codes "client")) (client_of places w.1) (cond (bytes_eq w.0 (codes "tick")) (tick_of places w.1) (Err rule.Word))) e h in
+    elim (chosen (bytes_eq w.0.0 (codes "client")) (client_of places w.0.1) (cond (bytes_eq w.0.0 (codes "tick")) (tick_of places w.0.1) (Err rule.Word)) (Ok e) w.2) [
       | inl x ↦
           let c = client_is places w.0.1 e x.1 in
           (verb_is ws w.0.0 _ w.0.1 _ (word_is ws w.0 w.1) x.0 refl ∙ c.0, c.1)
-      | inr x ↦ absurd (cc (x.1))
+      | inr x ↦ elim (chosen (bytes_eq w.0.0 (codes "tick")) (tick_of places w.0.1) (Err rule.Word) (Ok e) x.1) [
+        | inl x ↦
+            let c = tick_is places w.0.1 e x.1 in
+            (verb_is ws w.0.0 _ w.0.1 _ (word_is ws w.0 w.1) x.0 refl ∙ c.0, c.1)
+        | inr x ↦ absurd (cc (x.1))
+      ]
     ]
 
 pub event_again : (places : Places) (e : Event) → is_event places e ≡ true → event_of places (event_words e) ≡ Ok e
-unfolding event_of client_of node_at shard_at
+unfolding event_of client_of tick_of node_at shard_at
 event_again places (Client node shard r) h =
     let a = both _ _ h in
     let b = both _ _ a.0 in
     let c = both _ _ b.0 in
     let d = both _ _ c.0 in
     rw (number_again node d.0, d.1, number_again shard c.1, b.1, request_again r a.1) refl
+event_again places (Tick node shard ms) h =
+    let a = both _ _ h in
+    let b = both _ _ a.0 in
+    let c = both _ _ b.0 in
+    let d = both _ _ c.0 in
+    rw (number_again node d.0, d.1, number_again shard c.1, b.1, single_again ms a.1) refl
 
 -- ---- their shape
 
 put_fits : (p : Put) → op_fits (put_op p) ≡ true
 unfolding write_fits
-put_fits p = two_more (length (expect_words p.expect))
+put_fits p = two_more (length (put_options p))
   where
     two_more : (n : ℕ) → leb 2 (suc (suc n)) ≡ true
     two_more n = grind (arith, nat_tests)
@@ -181,16 +243,16 @@ delete_fits d = by_expect d.expect
     by_expect Absent = refl
     by_expect (Exactly n) = refl
 
-range_fits : (r : KeyRange) → op_fits (range_op r) ≡ true
+range_op_fits : (r : KeyRange) → op_fits (range_op r) ≡ true
 unfolding write_fits
-range_fits r = refl
+range_op_fits r = refl
 
 all_map : {A B : Type 0} (f : B → Bool) (g : A → B) (xs : List A) → ((x : A) → f (g x) ≡ true) → list_all f (map g xs) ≡ true
 all_map f g [] h = refl
 all_map f g (x ∷ xs) h = rw (h x, all_map f g xs h) refl
 
 batch_fits : (b : WriteBatch) → list_all op_fits (batch_ops b) ≡ true
-batch_fits b = rw (list_all-append op_fits (map put_op b.puts ++ map delete_op b.deletes) (map range_op b.ranges), list_all-append op_fits (map put_op b.puts) (map delete_op b.deletes), all_map op_fits put_op b.puts put_fits, all_map op_fits delete_op b.deletes delete_fits, all_map op_fits range_op b.ranges range_fits) refl
+batch_fits b = rw (list_all-append op_fits (map put_op b.puts ++ map delete_op b.deletes) (map range_op b.ranges), list_all-append op_fits (map put_op b.puts) (map delete_op b.deletes), all_map op_fits put_op b.puts put_fits, all_map op_fits delete_op b.deletes delete_fits, all_map op_fits range_op b.ranges range_op_fits) refl
 
 compare_fits : (c : Compare) → is_compare (compare_word c) ≡ true
 compare_fits Equal = refl
@@ -199,34 +261,43 @@ compare_fits Ceiling = refl
 compare_fits Lower = refl
 compare_fits Higher = refl
 
+get_has_shape : (c : Compare) (key : List ℕ) (by : Option (List ℕ)) → get_fits (compare_word c ∷ spelt key ∷ by_words by) ≡ true
+get_has_shape c key None = rw (compare_fits c) refl
+get_has_shape c key (Some name) = rw (compare_fits c) refl
+
+ends_have_shape : (r : KeyRange) (by : Option (List ℕ)) → range_fits (length (range_words r ++ by_words by)) ≡ true
+ends_have_shape r None = refl
+ends_have_shape r (Some name) = refl
+
 abbrev FitsAlone : WriteBatch → Type 0
 FitsAlone b = request_fits (joined (batch_ops b)) ≡ true
 
 alone_put_fits : (p : Put) → is_put p ≡ true → FitsAlone (with_put empty_batch p)
-unfolding request_fits
+unfolding request_fits single_fits
 alone_put_fits p h = put_fits p
 
 alone_delete_fits : (d : Delete) → is_delete d ≡ true → FitsAlone (with_delete empty_batch d)
-unfolding request_fits
+unfolding request_fits single_fits
 alone_delete_fits d h = delete_fits d
 
 alone_range_fits : (r : KeyRange) → is_range r ≡ true → FitsAlone (with_range empty_batch r)
-unfolding request_fits
-alone_range_fits r h = range_fits r
+unfolding request_fits single_fits
+alone_range_fits r h = range_op_fits r
 
 request_has_shape : (r : Request) → is_request r ≡ true → request_fits (request_words r) ≡ true
-unfolding request_fits
+unfolding request_fits single_fits
 request_has_shape (Write grouping.Alone (command.Write b)) h = let x = both (are_lawful b) _ h in alone_cases FitsAlone alone_put_fits alone_delete_fits alone_range_fits b x.0 x.1
 request_has_shape (Write grouping.Batch (command.Write b)) h = let x = both (are_lawful b) _ h in rw (batch_split b x.1) (batch_fits b)
-request_has_shape (Write g (command.Open n)) h = absurd cc
-request_has_shape (Write g (command.Close n)) h = absurd cc
+request_has_shape (Write g (command.Open n)) h = refl
+request_has_shape (Write g (command.Close n)) h = refl
 request_has_shape (Write g (command.Expire n)) h = absurd cc
-request_has_shape (Read (query.Get c key by)) h = rw (compare_fits c) refl
-request_has_shape (Read (query.List r by)) h = refl
-request_has_shape (Read (query.Scan r by)) h = refl
-request_has_shape (Read (query.Notices n skip)) h = absurd cc
-request_has_shape (Read (query.KeepAlive n)) h = absurd cc
+request_has_shape (Read (query.Get c key by)) h = get_has_shape c key by
+request_has_shape (Read (query.List r by)) h = ends_have_shape r by
+request_has_shape (Read (query.Scan r by)) h = ends_have_shape r by
+request_has_shape (Read (query.Notices past skip)) h = refl
+request_has_shape (Read (query.KeepAlive n)) h = refl
 
 pub event_has_shape : (places : Places) (e : Event) → is_event places e ≡ true → event_fits (event_words e) ≡ true
 unfolding event_fits
 event_has_shape places (Client node shard r) h = let a = both _ _ h in request_has_shape r a.1
+event_has_shape places (Tick node shard ms) h = refl

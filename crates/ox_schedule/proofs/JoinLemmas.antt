@@ -1,32 +1,58 @@
 -- Words that are joined by spaces are split again, and the other way round.
-use Rattle.std.proofs.Common.{◌≡◌, ◌∙◌, ℕ, ◌<◌, true, false, eqb, List, [], ◌∷◌, ◌++◌, length, refl, sym, ap, arith}
-use Rattle.std.specs.List.{list_all, onto_first, join_with_byte}
+use Rattle.std.proofs.Common.{◌≡◌, ◌∙◌, ℕ, ◌<◌, Bool, true, false, not, eqb, List, [], ◌∷◌, ◌++◌, length, refl, sym, ap, arith}
+use Rattle.std.specs.List.{list_all, onto_first, slice_split, join_with_byte}
 use Rattle.std.proofs.lemmas.Bool.Decides.{nat_tests}
+use Rattle.std.proofs.lemmas.Bool.{eq-eqb}
 use Rattle.std.proofs.lemmas.List.Splits.{join_with_byte-slice_split}
 use Rattle.ox_schedule.specs.Spelling.{is_printable, is_word, words_of}
-use Rattle.ox_schedule.proofs.Words.{both}
+use Rattle.ox_schedule.proofs.Words.{both, two}
 
-not_space : (b : ℕ) → is_printable b ≡ true → eqb b 32 ≡ false
+-- ---- parts without the byte that stands between two
+
+-- the byte isn't there
+abbrev pub lacks : ℕ → List ℕ → Bool
+lacks c w = list_all (λ b. not (eqb b c)) w
+
+-- the parts between one such byte and the next
+abbrev pub parts_of : ℕ → List ℕ → List (List ℕ)
+parts_of c bytes = slice_split (λ b. eqb b c) bytes
+
+other : (x : Bool) → not x ≡ true → x ≡ false
+other true h = cc
+other false h = refl
+
+first_split : (c : ℕ) (w rest : List ℕ) → lacks c w ≡ true → parts_of c (w ++ c ∷ rest) ≡ w ∷ parts_of c rest
+first_split c [] rest h = let same : eqb c c ≡ true = eq-eqb c c refl in rw same refl
+first_split c (b ∷ w) rest h = let x = both (not (eqb b c)) _ h in rw (other (eqb b c) x.0) (ap (onto_first b) (first_split c w rest x.1))
+
+last_split : (c : ℕ) (w : List ℕ) → lacks c w ≡ true → parts_of c w ≡ w ∷ []
+last_split c [] h = refl
+last_split c (b ∷ w) h = let x = both (not (eqb b c)) _ h in rw (other (eqb b c) x.0) (ap (onto_first b) (last_split c w x.1))
+
+pub parts_joined : (c : ℕ) (ws : List (List ℕ)) → 0 < length ws → list_all (lacks c) ws ≡ true → parts_of c (join_with_byte c ws) ≡ ws
+parts_joined c [] some h = absurd (omega arith)
+parts_joined c (w ∷ []) some h = let x = both (lacks c w) true h in last_split c w x.0
+parts_joined c (w ∷ next ∷ ws) some h =
+    let x = both (lacks c w) (list_all (lacks c) (next ∷ ws)) h in
+    first_split c w (join_with_byte c (next ∷ ws)) x.0
+    ∙ ap (λ (t : List (List ℕ)). w ∷ t) (parts_joined c (next ∷ ws) (omega arith) x.1)
+
+-- ---- words of a line
+
+not_space : (b : ℕ) → is_printable b ≡ true → not (eqb b 32) ≡ true
 not_space b h = grind (arith, nat_tests)
 
-first_split : (w rest : List ℕ) → list_all is_printable w ≡ true → words_of (w ++ 32 ∷ rest) ≡ w ∷ words_of rest
-first_split [] rest h = refl
-first_split (b ∷ w) rest h = let x = both (is_printable b) _ h in rw (not_space b x.0) (ap (onto_first b) (first_split w rest x.1))
+no_space : (w : List ℕ) → list_all is_printable w ≡ true → lacks 32 w ≡ true
+no_space [] h = refl
+no_space (b ∷ w) h = let x = both (is_printable b) _ h in two _ _ (not_space b x.0) (no_space w x.1)
 
-last_split : (w : List ℕ) → list_all is_printable w ≡ true → words_of w ≡ w ∷ []
-last_split [] h = refl
-last_split (b ∷ w) h = let x = both (is_printable b) _ h in rw (not_space b x.0) (ap (onto_first b) (last_split w x.1))
+no_spaces : (ws : List (List ℕ)) → list_all is_word ws ≡ true → list_all (lacks 32) ws ≡ true
+no_spaces [] h = refl
+no_spaces (w ∷ ws) h = let x = both (is_word w) _ h in two _ _ (no_space w (both _ (list_all is_printable w) x.0).1) (no_spaces ws x.1)
 
 -- words with one space between two are the words of that line
 pub words_joined : (ws : List (List ℕ)) → 0 < length ws → list_all is_word ws ≡ true → words_of (join_with_byte 32 ws) ≡ ws
-words_joined [] some h = absurd (omega arith)
-words_joined (w ∷ []) some h =
-    let x = both (is_word w) true h in
-    last_split w (both _ (list_all is_printable w) x.0).1
-words_joined (w ∷ next ∷ ws) some h =
-    let x = both (is_word w) (list_all is_word (next ∷ ws)) h in
-    first_split w (join_with_byte 32 (next ∷ ws)) (both _ (list_all is_printable w) x.0).1
-    ∙ ap (λ (t : List (List ℕ)). w ∷ t) (words_joined (next ∷ ws) (omega arith) x.1)
+words_joined ws some h = parts_joined 32 ws some (no_spaces ws h)
 
 -- a line is its words with one space between two
 pub line_joined : (line : List ℕ) → line ≡ join_with_byte 32 (words_of line)

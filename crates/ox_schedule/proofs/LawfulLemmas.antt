@@ -1,10 +1,10 @@
 -- What a schedule asks has bytes in the grammar of commands and queries.
-use Rattle.std.proofs.Common.{◌≡◌, ◌<◌, ◌≤◌, ◌+◌, ◌^◌, ℕ, suc, Bool, true, false, ◌&&◌, eqb, leb, ltb, cond, List, [], ◌∷◌, ◌++◌, length, map, codes, decimal, Some, None, refl, ap, subst, arith}
+use Rattle.std.proofs.Common.{◌≡◌, ◌<◌, ◌≤◌, ◌+◌, ◌^◌, ℕ, suc, Bool, true, false, ◌&&◌, eqb, leb, ltb, cond, List, [], ◌∷◌, ◌++◌, length, map, codes, decimal, Option, Some, None, ◌∙◌, refl, ap, subst, arith}
 use Rattle.std.specs.Prelude.{is_none, nat_eq}
-use Rattle.std.specs.List.{list_all, onto_first, starts_with}
+use Rattle.std.specs.List.{list_all, onto_first, starts_with, join_with_byte}
 use Rattle.std.proofs.lemmas.Bool.{lt-ltb, le-leb, leb-true, ltb-false}
 use Rattle.std.proofs.lemmas.Grind.{common_steps}
-use Rattle.std.proofs.lemmas.List.{length-append}
+use Rattle.std.proofs.lemmas.List.{length-append, length-map}
 use Rattle.ox_types.specs.Key.{key_fault, reserved}
 use Rattle.ox_types.specs.declared.key.KeyFault.TheVariants.{Empty, TooLong, Reserved}
 use Rattle.ox_order.specs.declared.range.Lo.{Lo}
@@ -15,6 +15,7 @@ use Rattle.ox_order.specs.declared.range.KeyRange.{KeyRange}
 use Rattle.ox_order.specs.Forms as order
 use Rattle.ox_ops.specs.declared.write.Expect.{Expect}
 use Rattle.ox_ops.specs.declared.write.Expect.TheVariants.{Any, Absent, Exactly}
+use Rattle.ox_ops.specs.declared.write.IndexEntry.{IndexEntry}
 use Rattle.ox_ops.specs.declared.write.Put.{Put}
 use Rattle.ox_ops.specs.declared.write.Delete.{Delete}
 use Rattle.ox_ops.specs.declared.write.WriteBatch.{WriteBatch}
@@ -23,20 +24,21 @@ use Rattle.ox_ops.specs.declared.query.Compare.{Compare}
 use Rattle.ox_ops.specs.declared.query.Compare.TheVariants.{Equal, Floor, Ceiling, Lower, Higher}
 use Rattle.ox_ops.specs.declared.query.ShardQuery.{ShardQuery}
 use Rattle.ox_ops.specs.declared.query.ShardQuery.TheVariants as query
+use Rattle.ox_bytes.specs.Fields as field
 use Rattle.ox_ops.specs.Forms as form
 use Rattle.ox_schedule.specs.declared.schedule.Grouping.{Grouping}
 use Rattle.ox_schedule.specs.declared.schedule.Request.TheVariants.{Write, Read}
 use Rattle.ox_schedule.specs.declared.schedule.Event.{Event}
-use Rattle.ox_schedule.specs.declared.schedule.Event.TheVariants.{Client}
+use Rattle.ox_schedule.specs.declared.schedule.Event.TheVariants.{Client, Tick}
 use Rattle.ox_schedule.specs.declared.schedule.Places.{Places}
 use Rattle.ox_schedule.specs.declared.schedule.Schedule.{Schedule}
-use Rattle.ox_schedule.specs.Spelling.{is_key, is_value, is_empty, is_expect, is_lo, is_hi, is_range, is_put, is_delete, are_lawful, is_query, is_event, put_op, delete_op, range_op, batch_ops, joined, grouping_words, event_line}
+use Rattle.ox_schedule.specs.Spelling.{is_key, is_value, is_byte, is_name, is_number, is_alone, is_expect, is_session, is_entry, is_by, value_word, spelt, expect_words, session_words, numbers_text, deltas_words, entry_word, put_options, is_lo, is_hi, is_range, is_put, is_delete, are_lawful, is_query, is_event, put_op, delete_op, range_op, batch_ops, joined, grouping_words, event_line}
 use Rattle.ox_schedule.specs.Line.{spaced}
 use Rattle.ox_schedule.specs.Lawful.{asks_encodable}
 use Rattle.ox_schedule.specs.Schedule.{SpellsSchedule, lines_of, places_of, first_line}
 use Rattle.ox_schedule.proofs.Words.{both, two}
-use Rattle.ox_schedule.proofs.Fields.{no_items, no_value}
-use Rattle.ox_schedule.proofs.WriterLemmas.{join_spaced}
+use Rattle.ox_schedule.proofs.Fields.{put_parts}
+use Rattle.ox_schedule.proofs.WriterLemmas.{join_spaced, spaced_append}
 
 -- ---- keys, values and ranges
 
@@ -71,6 +73,37 @@ range_lawful : (r : KeyRange) → is_range r ≡ true → order.key_range.is_law
 unfolding order.key_range
 range_lawful r h = let x = both (is_lo r.lo) (is_hi r.hi) h in two _ _ (lo_lawful r.lo x.0) (hi_lawful r.hi x.1)
 
+-- ---- how long options are
+
+spaced_long : (ws : List (List ℕ)) → length ws ≤ length (spaced ws)
+spaced_long [] = omega arith
+spaced_long (w ∷ ws) = omega (arith, length-append w (spaced ws), spaced_long ws)
+
+commas_long : (ws : List (List ℕ)) → length ws ≤ length (join_with_byte 44 ws) + 1
+commas_long [] = omega arith
+commas_long (w ∷ []) = omega arith
+commas_long (w ∷ next ∷ ws) = omega (arith, length-append w (44 ∷ join_with_byte 44 (next ∷ ws)), commas_long (next ∷ ws))
+
+seq_long : (ds : List ℕ) → length ds ≤ length (spaced (deltas_words ds))
+seq_long [] = omega arith
+seq_long (d ∷ ds) = omega (arith, length-append (codes "seq=" ++ numbers_text (d ∷ ds)) [], length-append (codes "seq=") (numbers_text (d ∷ ds)), commas_long (map decimal (d ∷ ds)), length-map (d ∷ ds) decimal)
+
+spaced_both : (a b : List (List ℕ)) → length (spaced (a ++ b)) ≡ length (spaced a) + length (spaced b)
+spaced_both a b = ap length (spaced_append a b) ∙ length-append (spaced a) (spaced b)
+
+options_long : (p : Put) → length (spaced (put_options p)) ≤ length (spaced (put_op p))
+options_long p = omega (arith, spaced_both (codes "put" ∷ spelt p.key ∷ value_word p.value ∷ []) (put_options p))
+
+deltas_long : (p : Put) → length p.deltas ≤ length (spaced (put_op p))
+deltas_long p =
+    let entries : List (List ℕ) = map entry_word p.indexes in
+    omega (arith, options_long p, seq_long p.deltas, spaced_both (expect_words p.expect) (session_words p.session ++ (deltas_words p.deltas ++ entries)), spaced_both (session_words p.session) (deltas_words p.deltas ++ entries), spaced_both (deltas_words p.deltas) entries)
+
+entries_long : (p : Put) → length p.indexes ≤ length (spaced (put_op p))
+entries_long p =
+    let entries : List (List ℕ) = map entry_word p.indexes in
+    omega (arith, options_long p, spaced_long entries, length-map p.indexes entry_word, spaced_both (expect_words p.expect) (session_words p.session ++ (deltas_words p.deltas ++ entries)), spaced_both (session_words p.session) (deltas_words p.deltas ++ entries), spaced_both (deltas_words p.deltas) entries)
+
 -- ---- operations
 
 expect_lawful : (e : Expect) → is_expect e ≡ true → form.expect.is_lawful e ≡ true
@@ -79,31 +112,68 @@ expect_lawful Any h = refl
 expect_lawful Absent h = refl
 expect_lawful (Exactly n) h = h
 
-put_lawful : (p : Put) → is_put p ≡ true → form.put.is_lawful p ≡ true
-unfolding form.put
-put_lawful p h =
-    let a = both (is_key p.key && is_value p.value && is_expect p.expect && is_none p.session && is_empty p.deltas) (is_empty p.indexes) h in
-    let b = both (is_key p.key && is_value p.value && is_expect p.expect && is_none p.session) (is_empty p.deltas) a.0 in
-    let c = both (is_key p.key && is_value p.value && is_expect p.expect) (is_none p.session) b.0 in
-    let x = both (is_key p.key && is_value p.value) (is_expect p.expect) c.0 in
-    let y = both (is_key p.key) (is_value p.value) x.0 in
-    rw (no_value p.session c.1, no_items p.deltas b.1, no_items p.indexes a.1) (two _ _ (key_lawful p.key y.0) (two _ _ (value_lawful p.value y.1) (two _ true (expect_lawful p.expect x.1) refl)))
+name_lawful : (n : List ℕ) → is_name n ≡ true → ltb (length n) (2 ^ 32) && form.is_name n ≡ true
+unfolding is_name
+name_lawful n h =
+    let x = both (list_all is_byte n) (form.is_name n) h in
+    let y = both (leb 1 (length n)) (leb (length n) 255) x.1 in
+    two _ _ (lt-ltb (length n) (2 ^ 32) (omega (arith, leb-true (length n) 255 y.1))) x.1
 
-delete_lawful : (d : Delete) → is_delete d ≡ true → form.delete.is_lawful d ≡ true
-unfolding form.delete
-delete_lawful d h = let x = both (is_key d.key) (is_expect d.expect) h in two _ _ (key_lawful d.key x.0) (expect_lawful d.expect x.1)
+session_lawful : (s : Option ℕ) → is_session s ≡ true → (field.option field.number64).is_lawful s ≡ true
+session_lawful None h = refl
+session_lawful (Some n) h = h
+
+by_lawful : (by : Option (List ℕ)) → is_by by ≡ true → (field.option form.index_name).is_lawful by ≡ true
+by_lawful None h = refl
+by_lawful (Some name) h = name_lawful name h
+
+entry_lawful : (e : IndexEntry) → is_entry e ≡ true → form.index_entry.is_lawful e ≡ true
+unfolding form.index_entry
+entry_lawful e h = let x = both (is_name e.name) (is_key e.key) h in two _ _ (name_lawful e.name x.0) (key_lawful e.key x.1)
 
 all_lawful : {A : Type 0} (f g : A → Bool) (xs : List A) → ((x : A) → f x ≡ true → g x ≡ true) → list_all f xs ≡ true → list_all g xs ≡ true
 all_lawful f g [] each h = refl
 all_lawful f g (x ∷ xs) each h = let p = both (f x) _ h in two _ _ (each x p.0) (all_lawful f g xs each p.1)
 
-batch_lawful : (b : WriteBatch) → are_lawful b ≡ true → length (batch_ops b) < 2 ^ 32 → form.write_batch.is_lawful b ≡ true
+put_lawful : (p : Put) → is_put p ≡ true → length (spaced (put_op p)) < 2 ^ 32 → form.put.is_lawful p ≡ true
+unfolding form.put
+put_lawful p h short =
+    let x = put_parts p h in
+    let deltas : length p.deltas < 2 ^ 32 = omega (arith, short, deltas_long p) in
+    let entries : length p.indexes < 2 ^ 32 = omega (arith, short, entries_long p) in
+    two _ _ (key_lawful p.key x.key) (two _ _ (value_lawful p.value x.value) (two _ _ (expect_lawful p.expect x.expect) (two _ _ (session_lawful p.session x.session)
+    (two _ _ (two _ _ (lt-ltb (length p.deltas) (2 ^ 32) deltas) (all_lawful is_number (λ n. ltb n (2 ^ 64)) p.deltas (λ n k. k) x.deltas))
+    (two _ _ (lt-ltb (length p.indexes) (2 ^ 32) entries) (all_lawful is_entry form.index_entry.is_lawful p.indexes entry_lawful x.entries))))))
+
+delete_lawful : (d : Delete) → is_delete d ≡ true → form.delete.is_lawful d ≡ true
+unfolding form.delete
+delete_lawful d h = let x = both (is_key d.key) (is_expect d.expect) h in two _ _ (key_lawful d.key x.0) (expect_lawful d.expect x.1)
+
+-- how long operations are, one by one
+abbrev total : List (List (List ℕ)) → ℕ
+total [] = 0
+total (op ∷ ops) = length (spaced op) + total ops
+
+puts_lawful : (ps : List Put) → list_all is_put ps ≡ true → total (map put_op ps) < 2 ^ 32 → list_all form.put.is_lawful ps ≡ true
+puts_lawful [] h short = refl
+puts_lawful (p ∷ ps) h short = let x = both (is_put p) _ h in two _ _ (put_lawful p x.0 (omega (arith, short))) (puts_lawful ps x.1 (omega (arith, short)))
+
+total_append : (a b : List (List (List ℕ))) → total (a ++ b) ≡ total a + total b
+total_append [] b = omega arith
+total_append (op ∷ a) b = omega (arith, total_append a b)
+
+total_joined : (ops : List (List (List ℕ))) → total ops ≤ length (spaced (joined ops))
+total_joined [] = omega arith
+total_joined (op ∷ []) = omega arith
+total_joined (op ∷ next ∷ ops) = omega (arith, ap length (spaced_append op (codes "+" ∷ joined (next ∷ ops))), length-append (spaced op) (spaced (codes "+" ∷ joined (next ∷ ops))), total_joined (next ∷ ops))
+
+batch_lawful : (b : WriteBatch) → are_lawful b ≡ true → length (batch_ops b) < 2 ^ 32 → total (batch_ops b) < 2 ^ 32 → form.write_batch.is_lawful b ≡ true
 unfolding form.write_batch
-batch_lawful b h few =
+batch_lawful b h few short =
     let m = both (list_all is_put b.puts && list_all is_delete b.deletes) (list_all is_range b.ranges) h in
     let n = both (list_all is_put b.puts) (list_all is_delete b.deletes) m.0 in
     let count : length b.puts + length b.deletes + length b.ranges ≡ length (batch_ops b) = counted b.puts b.deletes b.ranges in
-    two _ _ (two _ _ (lt-ltb (length b.puts) (2 ^ 32) (omega (arith, few, count))) (all_lawful is_put form.put.is_lawful b.puts put_lawful n.0))
+    two _ _ (two _ _ (lt-ltb (length b.puts) (2 ^ 32) (omega (arith, few, count))) (puts_lawful b.puts n.0 (omega (arith, short, total_append (map put_op b.puts ++ map delete_op b.deletes) (map range_op b.ranges), total_append (map put_op b.puts) (map delete_op b.deletes)))))
     (two _ _ (two _ _ (lt-ltb (length b.deletes) (2 ^ 32) (omega (arith, few, count))) (all_lawful is_delete form.delete.is_lawful b.deletes delete_lawful n.1))
     (two _ _ (lt-ltb (length b.ranges) (2 ^ 32) (omega (arith, few, count))) (all_lawful is_range order.key_range.is_lawful b.ranges range_lawful m.1)))
   where
@@ -111,10 +181,6 @@ batch_lawful b h few =
     counted ps ds rs = grind (arith, common_steps)
 
 -- ---- how long a line is
-
-spaced_long : (ws : List (List ℕ)) → length ws ≤ length (spaced ws)
-spaced_long [] = omega arith
-spaced_long (w ∷ ws) = omega (arith, length-append w (spaced ws), spaced_long ws)
 
 joined_long : (ops : List (List (List ℕ))) → length ops ≤ length (joined ops) + 1
 joined_long [] = omega arith
@@ -129,6 +195,14 @@ write_long node shard g b =
     let line = join_spaced (codes "client") rest in
     omega (arith, ap length line, length-append (codes "client") (spaced rest), spaced_long rest, length-append (grouping_words g) (joined (batch_ops b)), joined_long (batch_ops b))
 
+write_size : (node shard : ℕ) (g : Grouping) (b : WriteBatch) → total (batch_ops b) ≤ length (event_line (Client node shard (Write g (command.Write b))))
+unfolding event_line
+write_size node shard g b =
+    let ws : List (List ℕ) = grouping_words g ++ joined (batch_ops b) in
+    let rest : List (List ℕ) = decimal node ∷ decimal shard ∷ ws in
+    let line = join_spaced (codes "client") rest in
+    omega (arith, ap length line, length-append (codes "client") (spaced rest), spaced_both (decimal node ∷ decimal shard ∷ []) ws, spaced_both (grouping_words g) (joined (batch_ops b)), total_joined (batch_ops b))
+
 -- ---- requests
 
 compare_lawful : (c : Compare) → form.compare.is_lawful c ≡ true
@@ -141,11 +215,11 @@ compare_lawful Higher = refl
 
 query_lawful : (q : ShardQuery) → is_query q ≡ true → form.query.is_lawful q ≡ true
 unfolding form.query
-query_lawful (query.Get c key by) h = let x = both (is_key key) (is_none by) h in rw (no_value by x.1) (two _ _ (compare_lawful c) (two _ true (key_lawful key x.0) refl))
-query_lawful (query.List r by) h = let x = both (is_range r) (is_none by) h in rw (no_value by x.1) (two _ true (range_lawful r x.0) refl)
-query_lawful (query.Scan r by) h = let x = both (is_range r) (is_none by) h in rw (no_value by x.1) (two _ true (range_lawful r x.0) refl)
-query_lawful (query.Notices n skip) h = absurd cc
-query_lawful (query.KeepAlive n) h = absurd cc
+query_lawful (query.Get c key by) h = let x = both (is_key key) (is_by by) h in two _ _ (compare_lawful c) (two _ _ (key_lawful key x.0) (by_lawful by x.1))
+query_lawful (query.List r by) h = let x = both (is_range r) (is_by by) h in two _ _ (range_lawful r x.0) (by_lawful by x.1)
+query_lawful (query.Scan r by) h = let x = both (is_range r) (is_by by) h in two _ _ (range_lawful r x.0) (by_lawful by x.1)
+query_lawful (query.Notices past skip) h = h
+query_lawful (query.KeepAlive n) h = h
 
 never : (a : Bool) → a && false ≡ true → ⊥
 never true h = cc
@@ -153,11 +227,12 @@ never false h = cc
 
 event_encodable : (p : Places) (e : Event) → is_event p e ≡ true → length (event_line e) < 2 ^ 32 → asks_encodable e ≡ true
 unfolding form.command
-event_encodable p (Client node shard (Write g (command.Write b))) h short = batch_lawful b (both (are_lawful b) _ (both _ _ h).1).0 (omega (arith, short, write_long node shard g b))
-event_encodable p (Client node shard (Write g (command.Open n))) h short = absurd (never _ h)
-event_encodable p (Client node shard (Write g (command.Close n))) h short = absurd (never _ h)
+event_encodable p (Client node shard (Write g (command.Write b))) h short = batch_lawful b (both (are_lawful b) _ (both _ _ h).1).0 (omega (arith, short, write_long node shard g b)) (omega (arith, short, write_size node shard g b))
+event_encodable p (Client node shard (Write g (command.Open n))) h short = (both (is_alone g) (is_number n) (both _ _ h).1).1
+event_encodable p (Client node shard (Write g (command.Close n))) h short = (both (is_alone g) (is_number n) (both _ _ h).1).1
 event_encodable p (Client node shard (Write g (command.Expire n))) h short = absurd (never _ h)
 event_encodable p (Client node shard (Read q)) h short = query_lawful q (both _ _ h).1
+event_encodable p (Tick node shard ms) h short = refl
 
 -- ---- the lines of a text
 

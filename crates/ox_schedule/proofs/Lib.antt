@@ -1,4 +1,7 @@
 mod Words
+mod Steps
+mod Marks
+mod OptionLemmas
 mod Fields
 mod OpsLemmas
 mod BatchLemmas

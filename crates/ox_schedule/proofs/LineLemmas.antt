@@ -1,14 +1,14 @@
 -- The reader of a line answers an event exactly where the line spells it.
-use Rattle.std.proofs.Common.{◌≡◌, ◌∙◌, ℕ, true, false, not, codes, decimal, eqb, cond, List, ◌∷◌, length, Ok, Err, inl, inr, refl, sym, ap, subst, arith}
+use Rattle.std.proofs.Common.{◌≡◌, ◌∙◌, ℕ, true, false, not, codes, decimal, eqb, cond, List, [], ◌∷◌, length, Ok, Err, inl, inr, refl, sym, ap, subst, arith}
 use Rattle.std.specs.List.{list_all, join_with_byte}
 use Rattle.ox_types.specs.declared.ended.LineRule.TheVariants as rule
 use Rattle.ox_schedule.specs.declared.schedule.Event.{Event}
-use Rattle.ox_schedule.specs.declared.schedule.Event.TheVariants.{Client}
+use Rattle.ox_schedule.specs.declared.schedule.Event.TheVariants.{Client, Tick}
 use Rattle.ox_schedule.specs.declared.schedule.Places.{Places}
 use Rattle.ox_schedule.specs.Shape.{event_fits}
 use Rattle.ox_schedule.specs.Spelling.{is_event, is_word, words_of, request_words, event_words, event_line, SpellsEvent}
 use Rattle.ox_schedule.specs.Reading.{event_of, line_at}
-use Rattle.ox_schedule.proofs.Fields.{chosen}
+use Rattle.ox_schedule.proofs.Steps.{chosen}
 use Rattle.ox_schedule.proofs.EventLemmas.{event_found, event_again, event_has_shape}
 use Rattle.ox_schedule.proofs.WordLemmas.{event_are_words}
 use Rattle.ox_schedule.proofs.JoinLemmas.{words_joined, line_joined, some_line}
@@ -37,10 +37,12 @@ line_found places line e h =
 pub event_split : (places : Places) (e : Event) → is_event places e ≡ true → words_of (event_line e) ≡ event_words e
 unfolding event_line
 event_split places (Client node shard r) h = words_joined (event_words (Client node shard r)) (omega arith) (event_are_words places (Client node shard r) h)
+event_split places (Tick node shard ms) h = words_joined (event_words (Tick node shard ms)) (omega arith) (event_are_words places (Tick node shard ms) h)
 
 event_some : (e : Event) → eqb (length (event_line e)) 0 ≡ false
 unfolding event_line
 event_some (Client node shard r) = some_line (codes "client") (decimal node) (decimal shard ∷ request_words r)
+event_some (Tick node shard ms) = some_line (codes "tick") (decimal node) (decimal shard ∷ decimal ms ∷ [])
 
 pub own_line : (places : Places) (e : Event) → is_event places e ≡ true → line_at places (event_line e) ≡ Ok e
 unfolding line_at

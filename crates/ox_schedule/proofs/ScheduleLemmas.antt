@@ -17,7 +17,7 @@ use Rattle.ox_schedule.specs.Spelling.{is_event, event_line, is_word, words_of, 
 use Rattle.ox_schedule.specs.Reading.{number_of, line_at}
 use Rattle.ox_schedule.specs.Schedule.{Answers, SpellsSchedule, lines_of, places_of, is_first, first_words, first_line, at_line, with_front, event_then, events_at, first_of, first_at, schedule_with, behind_first, schedule_in, schedule_at}
 use Rattle.ox_schedule.proofs.Words.{both, two, same_bytes, number_is, number_again}
-use Rattle.ox_schedule.proofs.Fields.{bind_ok, chosen}
+use Rattle.ox_schedule.proofs.Steps.{bind_ok, chosen}
 use Rattle.ox_schedule.proofs.JoinLemmas.{words_joined, line_joined, some_line}
 use Rattle.ox_schedule.proofs.LineLemmas.{line_found, line_again}
 use Rattle.ox_schedule.proofs.WordLemmas.{number_is_word}

@@ -1,7 +1,7 @@
 -- A line of the right shape breaks only rules of single words: so `bytes` and `word` say exactly what is wrong.
 use Rattle.std.proofs.Common.{◌≢◌, not, eqb, ◌≡◌, ◌∙◌, ◌<◌, ◌≤◌, ℕ, suc, Bool, true, false, ◌&&◌, ◌||◌, cond, List, [], ◌∷◌, length, codes, decimal, Result, Ok, Err, Option, Some, None, ◌⊎◌, inl, inr, refl, sym, ap, subst, arith}
 use Rattle.std.specs.Str.{bytes_eq}
-use Rattle.std.specs.List.{list_all}
+use Rattle.std.specs.List.{list_all, slice_split}
 use Rattle.std.proofs.lemmas.Grind.{common_steps}
 use Rattle.std.proofs.lemmas.Bool.{cases_Bool, leb-true, eqb-true}
 use Rattle.ox_types.specs.declared.ended.LineRule.{LineRule}
@@ -11,16 +11,17 @@ use Rattle.ox_schedule.specs.declared.schedule.Places.{Places}
 use Rattle.ox_ops.specs.declared.query.Compare.TheVariants.{Equal, Floor, Ceiling, Lower, Higher}
 use Rattle.ox_order.specs.declared.range.Lo.TheVariants.{Start}
 use Rattle.ox_order.specs.declared.range.Hi.TheVariants.{End, Before}
-use Rattle.ox_ops.specs.declared.write.Expect.TheVariants.{Absent, Exactly}
+use Rattle.ox_ops.specs.declared.write.Expect.TheVariants.{Any, Absent, Exactly}
 use Rattle.percent_encoding.specs.Percent.{percent_decode}
 use Rattle.std.specs.Str.Parse.{digits_value}
-use Rattle.ox_schedule.specs.Spelling.{spelt, value_word, is_key, is_value, is_number, is_empty, is_node, is_shard, is_word, words_of}
+use Rattle.ox_schedule.specs.Spelling.{spelt, value_word, is_key, is_value, is_name, is_number, is_empty, is_node, is_shard, is_word, words_of}
 use Rattle.ox_schedule.proofs.EventLemmas.{node_is, shard_is}
 use Rattle.ox_schedule.specs.Outcome.{◌>>=◌, said}
-use Rattle.ox_schedule.specs.Shape.{ops_in, is_compare, write_fits, op_fits, get_fits, request_fits, client_fits, event_fits}
-use Rattle.ox_schedule.specs.Reading.{after, word_at, number_of, key_of, key_at, value_of, value_guess, value_at, expect_of, expect_given, expect_at, options_end, lo_given, lo_of, hi_of, compare_of, range_of, put_of, delete_of, get_of, with_put, with_delete, op_onto, ops_onto, batch_of, request_of, node_at, shard_at, client_of, event_of, line_at, empty_batch}
+use Rattle.ox_schedule.specs.Shape.{ops_in, is_compare, write_fits, op_fits, get_fits, single_fits, request_fits, client_fits, event_fits}
+use Rattle.ox_schedule.specs.Reading.{after, word_at, number_of, key_of, key_at, value_of, value_guess, value_at, name_of, each_of, session_of, deltas_of, at_colon, entry_in, entry_of, entry_given, entry_option, by_of, option_given, option_at, expect_of, expect_at, session_at, deltas_at, by_at, index_of, options_end, number_at, single_of, notices_of, lo_given, lo_of, hi_of, compare_of, range_at, range_of, ends_of, put_of, delete_of, get_of, with_put, with_delete, op_onto, ops_onto, batch_of, alone_of, request_of, node_at, shard_at, client_of, tick_of, event_of, line_at, empty_batch}
 use Rattle.ox_schedule.proofs.Words.{both, same_bytes}
-use Rattle.ox_schedule.proofs.Fields.{word_is, key_at_is}
+use Rattle.ox_schedule.proofs.Steps.{word_is}
+use Rattle.ox_schedule.proofs.Fields.{key_at_is, number_at_is}
 
 abbrev kept : LineRule → Bool
 kept rule.Word = false
@@ -82,18 +83,83 @@ expect_of_fine : (w : List ℕ) → Fine (expect_of w)
 unfolding expect_of
 expect_of_fine w = test_fine (bytes_eq w (codes "absent")) (Ok Absent) (number_of w >>= λ n. Ok (Exactly n)) (record { is = refl }) (bind_fine (number_of w) _ (number_fine w) (λ n e. (record { is = refl })))
 
+session_of_fine : (w : List ℕ) → Fine (session_of w)
+unfolding session_of
+session_of_fine w = bind_fine (number_of w) _ (number_fine w) (λ n e. (record { is = refl }))
+
+each_fine : {A : Type 0} (read : List ℕ → Result A LineRule) → ((w : List ℕ) → Fine (read w)) → (ws : List (List ℕ)) → Fine (each_of read ws)
+each_fine read one [] = record { is = refl }
+each_fine read one (w ∷ ws) = bind_fine (read w) _ (one w) (λ x e. bind_fine (each_of read ws) _ (each_fine read one ws) (λ xs f. (record { is = refl })))
+
+deltas_of_fine : (w : List ℕ) → Fine (deltas_of w)
+unfolding deltas_of
+deltas_of_fine w = each_fine number_of number_fine (slice_split (λ b. eqb b 44) w)
+
+name_fine : (w : List ℕ) → Fine (name_of w)
+unfolding name_of
+name_fine w = said_fine spelt is_name rule.Option w (percent_decode w) refl
+
+entry_fine : (w : List ℕ) → Fine (entry_of w)
+unfolding entry_of
+entry_fine w = by_colon (at_colon w)
+  where
+    by_colon : (o : Option (List ℕ × List ℕ)) → Fine (entry_in o)
+    by_colon None = record { is = refl }
+    by_colon (Some x) = bind_fine (key_of x.1) _ (key_fine x.1) (λ k e. bind_fine (name_of x.0) _ (name_fine x.0) (λ n f. (record { is = refl })))
+
+entry_option_fine : (w : List ℕ) → Fine (entry_option w)
+unfolding entry_option
+entry_option_fine w = by_text (after (codes "index=") w)
+  where
+    by_text : (o : Option (List ℕ)) → Fine (entry_given o)
+    by_text None = record { is = refl }
+    by_text (Some text) = entry_fine text
+
+by_of_fine : (w : List ℕ) → Fine (by_of w)
+unfolding by_of
+by_of_fine w = bind_fine (name_of w) _ (name_fine w) (λ n e. (record { is = refl }))
+
+option_fine : {A : Type 0} (name : List ℕ) (read : List ℕ → Result A LineRule) (none : A) → ((w : List ℕ) → Fine (read w)) → (ws : List (List ℕ)) → Fine (option_at name read none ws)
+option_fine name read none one [] = record { is = refl }
+option_fine {A} name read none one (w ∷ ws) = by_text (after name w)
+  where
+    by_text : (o : Option (List ℕ)) → Fine (option_given read none w ws o)
+    by_text None = record { is = refl }
+    by_text (Some text) = bind_fine (read text) _ (one text) (λ x e. (record { is = refl }))
+
 expect_at_fine : (ws : List (List ℕ)) → Fine (expect_at ws)
 unfolding expect_at
-expect_at_fine [] = record { is = refl }
-expect_at_fine (w ∷ ws) = by_text (after (codes "expect=") w)
-  where
-    by_text : (o : Option (List ℕ)) → Fine (expect_given w ws o)
-    by_text None = record { is = refl }
-    by_text (Some text) = bind_fine (expect_of text) _ (expect_of_fine text) (λ e f. (record { is = refl }))
+expect_at_fine ws = option_fine (codes "expect=") expect_of Any expect_of_fine ws
+
+session_at_fine : (ws : List (List ℕ)) → Fine (session_at ws)
+unfolding session_at
+session_at_fine ws = option_fine (codes "session=") session_of None session_of_fine ws
+
+deltas_at_fine : (ws : List (List ℕ)) → Fine (deltas_at ws)
+unfolding deltas_at
+deltas_at_fine ws = option_fine (codes "seq=") deltas_of [] deltas_of_fine ws
 
 end_fine : (ws : List (List ℕ)) → Fine (options_end ws)
 end_fine [] = record { is = refl }
 end_fine (w ∷ ws) = record { is = refl }
+
+number_at_fine : (ws : List (List ℕ)) → 0 < length ws → Fine (number_at ws)
+unfolding number_at
+number_at_fine ws h = bind_fine (word_at ws) _ (word_fine ws h) (λ w e. bind_fine (number_of w.0) _ (number_fine w.0) (λ n f. (record { is = refl })))
+
+index_fine : (ws : List (List ℕ)) → Fine (index_of ws)
+unfolding index_of by_at
+index_fine ws = bind_fine (option_at (codes "by=") by_of None ws) _ (option_fine (codes "by=") by_of None by_of_fine ws) (λ x e. bind_fine (options_end x.1) _ (end_fine x.1) (λ u f. (record { is = refl })))
+
+single_fine : (ws : List (List ℕ)) → 1 ≤ length ws → Fine (single_of ws)
+unfolding single_of
+single_fine ws h = bind_fine (number_at ws) _ (number_at_fine ws h) (λ n e. bind_fine (options_end n.1) _ (end_fine n.1) (λ u f. (record { is = refl })))
+
+notices_fine : (ws : List (List ℕ)) → 2 ≤ length ws → Fine (notices_of ws)
+unfolding notices_of
+notices_fine ws h =
+    bind_fine (number_at ws) _ (number_at_fine ws (omega (arith, h))) (λ n e.
+    bind_fine (single_of n.1) _ (single_fine n.1 (omega (arith, h, ap length (number_at_is ws n e).0))) (λ s f. (record { is = refl })))
 
 lo_fine : (w : List ℕ) → Fine (lo_of w)
 unfolding lo_of
@@ -107,12 +173,19 @@ hi_fine : (w : List ℕ) → Fine (hi_of w)
 unfolding hi_of
 hi_fine w = test_fine (bytes_eq w (codes "*")) (Ok End) (key_of w >>= λ key. Ok (Before key)) (record { is = refl }) (bind_fine (key_of w) _ (key_fine w) (λ k e. (record { is = refl })))
 
+range_at_fine : (ws : List (List ℕ)) → 2 ≤ length ws → Fine (range_at ws)
+unfolding range_at
+range_at_fine ws h =
+    bind_fine (word_at ws) _ (word_fine ws (omega arith)) (λ a e. bind_fine (lo_of a.0) _ (lo_fine a.0) (λ lo f.
+    bind_fine (word_at a.1) _ (word_fine a.1 (omega (arith, word_less ws a e))) (λ b g. bind_fine (hi_of b.0) _ (hi_fine b.0) (λ hi i. (record { is = refl })))))
+
 range_fine : (ws : List (List ℕ)) → 2 ≤ length ws → Fine (range_of ws)
 unfolding range_of
-range_fine ws h =
-    bind_fine (word_at ws) _ (word_fine ws (omega arith)) (λ a e. bind_fine (lo_of a.0) _ (lo_fine a.0) (λ lo f.
-    bind_fine (word_at a.1) _ (word_fine a.1 (omega (arith, word_less ws a e))) (λ b g. bind_fine (hi_of b.0) _ (hi_fine b.0) (λ hi i.
-    bind_fine (options_end b.1) _ (end_fine b.1) (λ u j. (record { is = refl }))))))
+range_fine ws h = bind_fine (range_at ws) _ (range_at_fine ws h) (λ r e. bind_fine (options_end r.1) _ (end_fine r.1) (λ u f. (record { is = refl })))
+
+ends_fine : (ws : List (List ℕ)) → 2 ≤ length ws → Fine (ends_of ws)
+unfolding ends_of
+ends_fine ws h = bind_fine (range_at ws) _ (range_at_fine ws h) (λ r e. bind_fine (index_of r.1) _ (index_fine r.1) (λ b f. (record { is = refl })))
 
 put_fine : (ws : List (List ℕ)) → 2 ≤ length ws → Fine (put_of ws)
 unfolding put_of
@@ -120,7 +193,9 @@ put_fine ws h =
     bind_fine (key_at ws) _ (key_at_fine ws (omega arith)) (λ k e.
     bind_fine (value_at k.1) _ (value_at_fine k.1 (omega (arith, ap length (key_at_is ws k e).0))) (λ v f.
     bind_fine (expect_at v.1) _ (expect_at_fine v.1) (λ x g.
-    bind_fine (options_end x.1) _ (end_fine x.1) (λ u j. (record { is = refl })))))
+    bind_fine (session_at x.1) _ (session_at_fine x.1) (λ s i.
+    bind_fine (deltas_at s.1) _ (deltas_at_fine s.1) (λ d j.
+    bind_fine (each_of entry_option d.1) _ (each_fine entry_option entry_option_fine d.1) (λ n l. (record { is = refl })))))))
 
 delete_fine : (ws : List (List ℕ)) → 1 ≤ length ws → Fine (delete_of ws)
 unfolding delete_of
@@ -149,7 +224,7 @@ get_fine (w ∷ ws) h =
     let y = both _ _ x.0 in
     bind_fine (compare_of w) _ (compare_fine w y.0) (λ c e.
     bind_fine (key_at ws) _ (key_at_fine ws (leb-true 1 (length ws) y.1)) (λ k f.
-    bind_fine (options_end k.1) _ (end_fine k.1) (λ u j. (record { is = refl }))))
+    bind_fine (index_of k.1) _ (index_fine k.1) (λ u j. (record { is = refl }))))
 
 -- ---- by the word of a write or of a request
 
@@ -207,13 +282,61 @@ at_get ws h = bind_fine (get_of ws) _ (get_fine ws h) (λ p e. (record { is = re
 
 at_list : (ws : List (List ℕ)) → IsAsked ws (codes "list")
 unfolding request_fits request_of
-at_list ws h = bind_fine (range_of ws) _ (range_fine ws (leb-true 2 (length ws) (both _ _ h).0)) (λ p e. (record { is = refl }))
+at_list ws h = bind_fine (ends_of ws) _ (ends_fine ws (leb-true 2 (length ws) (both _ _ h).0)) (λ p e. (record { is = refl }))
 
 at_scan : (ws : List (List ℕ)) → IsAsked ws (codes "scan")
 unfolding request_fits request_of
-at_scan ws h = bind_fine (range_of ws) _ (range_fine ws (leb-true 2 (length ws) (both _ _ h).0)) (λ p e. (record { is = refl }))
+at_scan ws h = bind_fine (ends_of ws) _ (ends_fine ws (leb-true 2 (length ws) (both _ _ h).0)) (λ p e. (record { is = refl }))
+
+abbrev IsSingle : List (List ℕ) → List ℕ → Type 0
+IsSingle ws v = single_fits v (length ws) ≡ true → Fine (alone_of (v ∷ ws))
+
+at_notices : (ws : List (List ℕ)) → IsSingle ws (codes "notices")
+unfolding single_fits alone_of
+at_notices ws h = bind_fine (notices_of ws) _ (notices_fine ws (omega (arith, eqb-true (length ws) 2 h))) (λ p e. (record { is = refl }))
+
+at_open : (ws : List (List ℕ)) → IsSingle ws (codes "open")
+unfolding single_fits alone_of
+at_open ws h = bind_fine (single_of ws) _ (single_fine ws (omega (arith, eqb-true (length ws) 1 h))) (λ p e. (record { is = refl }))
+
+at_close : (ws : List (List ℕ)) → IsSingle ws (codes "close")
+unfolding single_fits alone_of
+at_close ws h = bind_fine (single_of ws) _ (single_fine ws (omega (arith, eqb-true (length ws) 1 h))) (λ p e. (record { is = refl }))
+
+at_keep : (ws : List (List ℕ)) → IsSingle ws (codes "keep")
+unfolding single_fits alone_of
+at_keep ws h = bind_fine (single_of ws) _ (single_fine ws (omega (arith, eqb-true (length ws) 1 h))) (λ p e. (record { is = refl }))
 
 -- none of the words that aren't those of operations
+record IsWrite (v : List ℕ) : Type 0 where
+  pub notices : bytes_eq v (codes "notices") ≡ false
+  pub opens : bytes_eq v (codes "open") ≡ false
+  pub close : bytes_eq v (codes "close") ≡ false
+  pub keep : bytes_eq v (codes "keep") ≡ false
+
+write_fine : (v : List ℕ) (ws : List (List ℕ)) → IsWrite v → IsSingle ws v
+unfolding single_fits alone_of
+write_fine v ws o h =
+    let fits : op_fits (v ∷ ws) ≡ true = rw (o.notices, o.opens, o.close, o.keep) at h in
+    rw (o.notices, o.opens, o.close, o.keep) (bind_fine (op_onto empty_batch (v ∷ ws)) _ (op_fine empty_batch (v ∷ ws) fits) (λ p e. (record { is = refl })))
+
+single_request : (v : List ℕ) (ws : List (List ℕ)) → IsSingle ws v
+single_request v ws h =
+    elim (split v (codes "notices")) [
+      | inl e ↦ subst (IsSingle ws) (sym e) (at_notices ws) h
+      | inr d ↦ elim (split v (codes "open")) [
+        | inl e ↦ subst (IsSingle ws) (sym e) (at_open ws) h
+        | inr f ↦ elim (split v (codes "close")) [
+          | inl e ↦ subst (IsSingle ws) (sym e) (at_close ws) h
+          | inr g ↦ elim (split v (codes "keep")) [
+            | inl e ↦ subst (IsSingle ws) (sym e) (at_keep ws) h
+            | inr i ↦ write_fine v ws (record { notices = d; opens = f; close = g; keep = i }) h
+          ]
+        ]
+      ]
+    ]
+
+-- none of the words of a batch and of reads of records
 record IsOther (v : List ℕ) : Type 0 where
   pub batch : bytes_eq v (codes "batch") ≡ false
   pub get : bytes_eq v (codes "get") ≡ false
@@ -223,8 +346,8 @@ record IsOther (v : List ℕ) : Type 0 where
 alone_fine : (v : List ℕ) (ws : List (List ℕ)) → IsOther v → request_fits (v ∷ ws) ≡ true → Fine (request_of (v ∷ ws))
 unfolding request_fits request_of
 alone_fine v ws o h =
-    let fits : op_fits (v ∷ ws) ≡ true = rw (o.batch, o.get, o.list, o.scan) at h in
-    rw (o.batch, o.get, o.list, o.scan) (bind_fine (op_onto empty_batch (v ∷ ws)) _ (op_fine empty_batch (v ∷ ws) fits) (λ p e. (record { is = refl })))
+    let fits : single_fits v (length ws) ≡ true = rw (o.batch, o.get, o.list, o.scan) at h in
+    rw (o.batch, o.get, o.list, o.scan) (single_request v ws fits)
 
 request_fine : (ws : List (List ℕ)) → request_fits ws ≡ true → Fine (request_of ws)
 unfolding request_fits
@@ -271,10 +394,24 @@ client_fine p (n ∷ s ∷ ws) h =
     tail_is : (a : List ℕ) (k : ℕ) (rest others : List (List ℕ)) → a ∷ rest ≡ decimal k ∷ others → others ≡ rest
     tail_is a k rest others e = cc
 
+tick_fine : (p : Places) (ws : List (List ℕ)) → length ws ≡ 3 → Fine (tick_of p ws)
+unfolding tick_of
+tick_fine p ws h =
+    bind_fine (node_at p ws) _ (node_fine p ws (omega (arith, h))) (λ x e.
+    bind_fine (shard_at p x.1) _ (shard_fine p x.1 (omega (arith, h, ap length (node_is p ws x e).0))) (λ y f.
+    bind_fine (single_of y.1) _ (single_fine y.1 (omega (arith, h, ap length (node_is p ws x e).0, ap length (shard_is p x.1 y f).0))) (λ n g. (record { is = refl }))))
+
 event_fine : (p : Places) (ws : List (List ℕ)) → event_fits ws ≡ true → Fine (event_of p ws)
 unfolding event_fits event_of
 event_fine p [] h = absurd cc
-event_fine p (v ∷ ws) h = let x = both (bytes_eq v (codes "client")) _ h in rw x.0 (client_fine p ws x.1)
+event_fine p (v ∷ ws) h =
+    elim (cases_Bool (bytes_eq v (codes "client"))) [
+      | inl c ↦ let fits : client_fits ws ≡ true = rw c at h in rw c (client_fine p ws fits)
+      | inr c ↦ elim (cases_Bool (bytes_eq v (codes "tick"))) [
+        | inl t ↦ let three : eqb (length ws) 3 ≡ true = rw (c, t) at h in rw (c, t) (tick_fine p ws (eqb-true (length ws) 3 three))
+        | inr t ↦ let never : false ≡ true = rw (c, t) at h in absurd cc
+      ]
+    ]
 
 -- ---- what the rules of a whole line say
 

@@ -1,6 +1,5 @@
 -- What an event spells is words: printable, and not empty.
-use Rattle.std.proofs.Common.{◌≡◌, ◌∙◌, ◌<◌, ◌+◌, ◌%◌, ◌^◌, ℕ, suc, ◌++◌, Bool, true, false, ◌&&◌, eqb, cond, List, [], ◌∷◌, length, map, codes, decimal, inl, inr, refl, subst, arith}
-use Rattle.std.specs.Prelude.{is_none}
+use Rattle.std.proofs.Common.{◌≡◌, ◌∙◌, ◌<◌, ◌+◌, ◌%◌, ◌^◌, ℕ, suc, ◌++◌, Bool, true, false, eqb, cond, List, [], ◌∷◌, length, map, codes, decimal, Option, Some, None, inl, inr, refl, subst, arith}
 use Rattle.std.specs.List.{list_all, flat_map, All}
 use Rattle.std.proofs.lemmas.Grind.{common_steps}
 use Rattle.std.proofs.lemmas.Fmt.{decimal_by_steps, decimal_nonempty}
@@ -18,6 +17,7 @@ use Rattle.ox_order.specs.declared.range.Hi.TheVariants.{End, Before}
 use Rattle.ox_order.specs.declared.range.KeyRange.{KeyRange}
 use Rattle.ox_ops.specs.declared.write.Expect.{Expect}
 use Rattle.ox_ops.specs.declared.write.Expect.TheVariants.{Any, Absent, Exactly}
+use Rattle.ox_ops.specs.declared.write.IndexEntry.{IndexEntry}
 use Rattle.ox_ops.specs.declared.write.Put.{Put}
 use Rattle.ox_ops.specs.declared.write.Delete.{Delete}
 use Rattle.ox_ops.specs.declared.write.WriteBatch.{WriteBatch}
@@ -29,10 +29,11 @@ use Rattle.ox_schedule.specs.declared.schedule.Grouping.TheVariants as grouping
 use Rattle.ox_schedule.specs.declared.schedule.Request.{Request}
 use Rattle.ox_schedule.specs.declared.schedule.Request.TheVariants.{Write, Read}
 use Rattle.ox_schedule.specs.declared.schedule.Event.{Event}
-use Rattle.ox_schedule.specs.declared.schedule.Event.TheVariants.{Client}
+use Rattle.ox_schedule.specs.declared.schedule.Event.TheVariants.{Client, Tick}
 use Rattle.ox_schedule.specs.declared.schedule.Places.{Places}
-use Rattle.ox_schedule.specs.Spelling.{is_plain, escape, spelt, is_printable, is_word, is_key, is_value, is_number, is_empty, is_expect, is_lo, is_hi, is_range, is_put, is_delete, are_lawful, is_request, is_event, value_word, expect_words, lo_word, hi_word, range_words, put_op, delete_op, range_op, batch_ops, joined, compare_word, request_words, event_words}
+use Rattle.ox_schedule.specs.Spelling.{is_plain, escape, spelt, is_printable, is_word, is_key, is_number, is_expect, is_session, is_by, session_words, numbers_text, deltas_words, entry_word, by_words, put_options, is_lo, is_hi, is_range, is_put, is_delete, are_lawful, is_alone, is_request, is_event, value_word, expect_words, lo_word, hi_word, range_words, put_op, delete_op, range_op, batch_ops, joined, compare_word, request_words, event_words}
 use Rattle.ox_schedule.proofs.Words.{both, two, spelt_is, some_word}
+use Rattle.ox_schedule.proofs.Fields.{PutParts, put_parts}
 
 plain_is_printable : (b : ℕ) → is_plain b ≡ true → is_printable b ≡ true
 plain_is_printable b h = grind (arith, common_steps)
@@ -107,14 +108,46 @@ hi_is_word (Before key) h = key_is_word key h
 range_are_words : (r : KeyRange) → is_range r ≡ true → list_all is_word (range_words r) ≡ true
 range_are_words r h = let x = both (is_lo r.lo) (is_hi r.hi) h in rw (lo_is_word r.lo x.0, hi_is_word r.hi x.1) refl
 
+behind_is_word : (front text : List ℕ) → 0 < length front → list_all is_printable front ≡ true → list_all is_printable text ≡ true → is_word (front ++ text) ≡ true
+behind_is_word front text some h k = some_is_word (front ++ text) (omega (arith, some, length-append front text)) (list_all-append is_printable front text ∙ two _ _ h k)
+
+session_are_words : (s : Option ℕ) → is_session s ≡ true → list_all is_word (session_words s) ≡ true
+session_are_words None h = refl
+session_are_words (Some n) h = two _ true (behind_is_word (codes "session=") (decimal n) (omega arith) refl (number_is_printable n ((Decides-ltb n (2 ^ 64)).0 h))) refl
+
+numbers_are_printable : (ds : List ℕ) → list_all is_number ds ≡ true → list_all is_printable (numbers_text ds) ≡ true
+numbers_are_printable [] h = refl
+numbers_are_printable (d ∷ []) h = number_is_printable d ((Decides-ltb d (2 ^ 64)).0 (both (is_number d) true h).0)
+numbers_are_printable (d ∷ next ∷ ds) h =
+    let x = both (is_number d) (list_all is_number (next ∷ ds)) h in
+    list_all-append is_printable (decimal d) (44 ∷ numbers_text (next ∷ ds)) ∙ two _ _ (number_is_printable d ((Decides-ltb d (2 ^ 64)).0 x.0)) (numbers_are_printable (next ∷ ds) x.1)
+
+deltas_are_words : (ds : List ℕ) → list_all is_number ds ≡ true → list_all is_word (deltas_words ds) ≡ true
+deltas_are_words [] h = refl
+deltas_are_words (d ∷ ds) h = two _ true (behind_is_word (codes "seq=") (numbers_text (d ∷ ds)) (omega arith) refl (numbers_are_printable (d ∷ ds) h)) refl
+
+entry_is_word : (e : IndexEntry) → is_word (entry_word e) ≡ true
+entry_is_word e = behind_is_word (codes "index=") (spelt e.name ++ (codes ":" ++ spelt e.key)) (omega arith) refl (list_all-append is_printable (spelt e.name) (codes ":" ++ spelt e.key) ∙ two _ _ (spelt_is_printable e.name) (spelt_is_printable e.key))
+
+entries_are_words : (es : List IndexEntry) → list_all is_word (map entry_word es) ≡ true
+entries_are_words [] = refl
+entries_are_words (e ∷ es) = two _ _ (entry_is_word e) (entries_are_words es)
+
+by_are_words : (by : Option (List ℕ)) → list_all is_word (by_words by) ≡ true
+by_are_words None = refl
+by_are_words (Some name) = two _ true (behind_is_word (codes "by=") (spelt name) (omega arith) refl (spelt_is_printable name)) refl
+
+words_both : (a b : List (List ℕ)) → list_all is_word a ≡ true → list_all is_word b ≡ true → list_all is_word (a ++ b) ≡ true
+words_both a b h k = list_all-append is_word a b ∙ two _ _ h k
+
+options_are_words : (p : Put) → PutParts p → list_all is_word (put_options p) ≡ true
+options_are_words p x =
+    words_both (expect_words p.expect) (session_words p.session ++ (deltas_words p.deltas ++ map entry_word p.indexes)) (expect_are_words p.expect x.expect)
+    (words_both (session_words p.session) (deltas_words p.deltas ++ map entry_word p.indexes) (session_are_words p.session x.session)
+    (words_both (deltas_words p.deltas) (map entry_word p.indexes) (deltas_are_words p.deltas x.deltas) (entries_are_words p.indexes)))
+
 put_are_words : (p : Put) → is_put p ≡ true → list_all is_word (put_op p) ≡ true
-put_are_words p h =
-    let a = both (is_key p.key && is_value p.value && is_expect p.expect && is_none p.session && is_empty p.deltas) (is_empty p.indexes) h in
-    let b = both (is_key p.key && is_value p.value && is_expect p.expect && is_none p.session) (is_empty p.deltas) a.0 in
-    let c = both (is_key p.key && is_value p.value && is_expect p.expect) (is_none p.session) b.0 in
-    let x = both (is_key p.key && is_value p.value) (is_expect p.expect) c.0 in
-    let y = both (is_key p.key) (is_value p.value) x.0 in
-    rw (key_is_word p.key y.0, value_is_word p.value, expect_are_words p.expect x.1) refl
+put_are_words p h = let x = put_parts p h in rw (key_is_word p.key x.key, value_is_word p.value) (options_are_words p x)
 
 delete_are_words : (d : Delete) → is_delete d ≡ true → list_all is_word (delete_op d) ≡ true
 delete_are_words d h =
@@ -154,14 +187,14 @@ compare_is_word Higher = refl
 request_are_words : (r : Request) → is_request r ≡ true → list_all is_word (request_words r) ≡ true
 request_are_words (Write grouping.Alone (command.Write b)) h = batch_are_words b (both (are_lawful b) _ h).0
 request_are_words (Write grouping.Batch (command.Write b)) h = batch_are_words b (both (are_lawful b) _ h).0
-request_are_words (Write g (command.Open n)) h = absurd cc
-request_are_words (Write g (command.Close n)) h = absurd cc
+request_are_words (Write g (command.Open n)) h = two _ true (number_is_word n (both (is_alone g) (is_number n) h).1) refl
+request_are_words (Write g (command.Close n)) h = two _ true (number_is_word n (both (is_alone g) (is_number n) h).1) refl
 request_are_words (Write g (command.Expire n)) h = absurd cc
-request_are_words (Read (query.Get c key by)) h = let x = both (is_key key) (is_none by) h in rw (compare_is_word c, key_is_word key x.0) refl
-request_are_words (Read (query.List r by)) h = range_are_words r (both (is_range r) (is_none by) h).0
-request_are_words (Read (query.Scan r by)) h = range_are_words r (both (is_range r) (is_none by) h).0
-request_are_words (Read (query.Notices n skip)) h = absurd cc
-request_are_words (Read (query.KeepAlive n)) h = absurd cc
+request_are_words (Read (query.Get c key by)) h = let x = both (is_key key) (is_by by) h in rw (compare_is_word c, key_is_word key x.0) (by_are_words by)
+request_are_words (Read (query.List r by)) h = words_both (range_words r) (by_words by) (range_are_words r (both (is_range r) (is_by by) h).0) (by_are_words by)
+request_are_words (Read (query.Scan r by)) h = words_both (range_words r) (by_words by) (range_are_words r (both (is_range r) (is_by by) h).0) (by_are_words by)
+request_are_words (Read (query.Notices past skip)) h = let x = both (is_number past) (is_number skip) h in rw (number_is_word past x.0, number_is_word skip x.1) refl
+request_are_words (Read (query.KeepAlive n)) h = two _ true (number_is_word n h) refl
 
 pub event_are_words : (places : Places) (e : Event) → is_event places e ≡ true → list_all is_word (event_words e) ≡ true
 event_are_words places (Client node shard r) h =
@@ -170,3 +203,9 @@ event_are_words places (Client node shard r) h =
     let c = both _ _ b.0 in
     let d = both _ _ c.0 in
     rw (number_is_word node d.0, number_is_word shard c.1, request_are_words r a.1) refl
+event_are_words places (Tick node shard ms) h =
+    let a = both _ _ h in
+    let b = both _ _ a.0 in
+    let c = both _ _ b.0 in
+    let d = both _ _ c.0 in
+    rw (number_is_word node d.0, number_is_word shard c.1, number_is_word ms a.1) refl

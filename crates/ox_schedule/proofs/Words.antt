@@ -16,9 +16,10 @@ use Rattle.percent_encoding.proofs.PercentLemmas.{round_trip}
 use Rattle.ox_types.specs.declared.ended.LineRule.{LineRule}
 use Rattle.ox_types.specs.declared.ended.LineRule.TheVariants as rule
 use Rattle.ox_schedule.specs.declared.escape.TheConstants.{ESCAPED}
+use Rattle.ox_ops.specs.Forms as form
 use Rattle.ox_schedule.specs.Outcome.{said}
-use Rattle.ox_schedule.specs.Spelling.{is_plain, escape, spelt, is_byte, is_key, is_value, is_number, value_word}
-use Rattle.ox_schedule.specs.Reading.{number_of, key_of, value_of, value_guess}
+use Rattle.ox_schedule.specs.Spelling.{is_plain, escape, spelt, is_byte, is_key, is_value, is_name, is_number, value_word}
+use Rattle.ox_schedule.specs.Reading.{number_of, key_of, value_of, value_guess, name_of}
 
 pub both : (a b : Bool) → a && b ≡ true → (a ≡ true) × (b ≡ true)
 both true b h = (refl, h)
@@ -138,6 +139,18 @@ value_bytes : (v : List ℕ) → is_value v ≡ true → list_all is_byte v ≡ 
 unfolding is_value
 value_bytes v h = (both _ _ h).0
 
+pub name_is : (w n : List ℕ) → name_of w ≡ Ok n → (w ≡ spelt n) × (is_name n ≡ true)
+unfolding name_of
+name_is w n e = said_is spelt is_name rule.Option w (percent_decode w) n e
+
+name_bytes : (n : List ℕ) → is_name n ≡ true → list_all is_byte n ≡ true
+unfolding is_name
+name_bytes n h = (both _ _ h).0
+
+pub name_again : (n : List ℕ) → is_name n ≡ true → name_of (spelt n) ≡ Ok n
+unfolding name_of
+name_again n h = said_again spelt is_name rule.Option (percent_decode (spelt n)) n (decoded_again n (name_bytes n h)) h
+
 -- ---- marks, which no spelling begins with
 
 pub no_mark : (m : ℕ) (bytes rest : List ℕ) → is_plain m ≡ false → m ≢ 37 → spelt bytes ≡ m ∷ rest → ⊥
@@ -194,3 +207,22 @@ value_found w d e s small short = rw (← e, s, small, le-leb (length d) 1048576
 pub value_too_long : (w d : List ℕ) → d ≡ value_guess w → bytes_eq w (value_word d) ≡ true → list_all is_byte d ≡ true → 1048576 < length d → value_of w ≡ Err rule.Value
 unfolding value_of is_value
 value_too_long w d e s small long = rw (← e, s, small, lt-leb (length d) 1048576 long) refl
+
+-- ---- what the reader of a name finds
+
+pub name_misspelt : (w d : List ℕ) → d ≡ percent_decode w → bytes_eq w (spelt d) ≡ false → name_of w ≡ Err rule.Option
+unfolding name_of
+name_misspelt w d e s = rw (← e, s) refl
+
+pub name_faulty : (w d : List ℕ) → d ≡ percent_decode w → form.is_name d ≡ false → name_of w ≡ Err rule.Option
+unfolding name_of is_name
+name_faulty w d e f = rw (← e, f) (by_tests (bytes_eq w (spelt d)) (list_all is_byte d))
+  where
+    by_tests : (x y : Bool) → cond (x && (y && false)) (Ok d) (Err rule.Option) ≡ Err rule.Option
+    by_tests true true = refl
+    by_tests true false = refl
+    by_tests false y = refl
+
+pub name_found : (w d : List ℕ) → d ≡ percent_decode w → bytes_eq w (spelt d) ≡ true → list_all is_byte d ≡ true → form.is_name d ≡ true → name_of w ≡ Ok d
+unfolding name_of is_name
+name_found w d e s small f = rw (← e, s, small, f) refl

@@ -1,13 +1,13 @@
 -- The text that is written word by word is the line.
 use Rattle.std.proofs.Common.{◌≡◌, ◌∙◌, ℕ, Bool, true, false, ◌||◌, List, [], ◌∷◌, ◌++◌, map, codes, decimal, refl, sym, ap, append_assoc}
-use Rattle.std.specs.List.{join_with_byte}
+use Rattle.std.specs.List.{flat_map, join_with_byte}
 use Rattle.std.proofs.lemmas.List.{append-nil}
 use Rattle.std.proofs.lemmas.Grind.{flat_map-append}
 use Rattle.ox_ops.specs.declared.write.WriteBatch.{WriteBatch}
 use Rattle.ox_schedule.specs.declared.schedule.Request.{Request}
-use Rattle.ox_schedule.specs.declared.schedule.Event.TheVariants.{Client}
-use Rattle.ox_schedule.specs.Spelling.{put_op, delete_op, range_op, joined, batch_ops, request_words, event_line}
-use Rattle.ox_schedule.specs.Line.{behind_space, spaced, has_some, plus_words, ops_behind}
+use Rattle.ox_schedule.specs.declared.schedule.Event.TheVariants.{Client, Tick}
+use Rattle.ox_schedule.specs.Spelling.{numbers_text, deltas_words, put_op, delete_op, range_op, joined, batch_ops, request_words, event_line}
+use Rattle.ox_schedule.specs.Line.{behind_space, behind_comma, spaced, has_some, plus_words, ops_behind}
 
 pub join_spaced : (w : List ℕ) (ws : List (List ℕ)) → join_with_byte 32 (w ∷ ws) ≡ w ++ spaced ws
 join_spaced w [] = sym (append-nil w)
@@ -19,7 +19,7 @@ op_written : (f : Bool) (op : List (List ℕ)) (ops : List (List (List ℕ))) �
 op_written f op [] = sym (append-nil (plus_words f ++ op))
 op_written f op (next ∷ ops) = sym (append_assoc (plus_words f) op (codes "+" ∷ joined (next ∷ ops)))
 
-spaced_append : (a b : List (List ℕ)) → spaced (a ++ b) ≡ spaced a ++ spaced b
+pub spaced_append : (a b : List (List ℕ)) → spaced (a ++ b) ≡ spaced a ++ spaced b
 spaced_append a b = flat_map-append behind_space a b
 
 pub op_text : (text : List ℕ) (f : Bool) (op : List (List ℕ)) (ops : List (List (List ℕ))) → ((text ++ spaced (plus_words f)) ++ spaced op) ++ spaced (ops_behind true ops) ≡ text ++ spaced (ops_behind f (op ∷ ops))
@@ -77,3 +77,30 @@ client_text text node shard r =
   where
     regroup : (a b c d e : List ℕ) → (((a ++ b) ++ ((32 ∷ c) ++ [])) ++ ((32 ∷ d) ++ [])) ++ e ≡ a ++ (b ++ ((32 ∷ c) ++ ((32 ∷ d) ++ e)))
     regroup a b c d e = simp (append-nil, append_assoc)
+
+pub tick_text : (text : List ℕ) (node shard ms : ℕ) → (((text ++ codes "tick") ++ spaced (decimal node ∷ [])) ++ spaced (decimal shard ∷ [])) ++ spaced (decimal ms ∷ []) ≡ text ++ event_line (Tick node shard ms)
+unfolding event_line
+tick_text text node shard ms =
+    regroup text (codes "tick") (decimal node) (decimal shard) (spaced (decimal ms ∷ []))
+    ∙ ap (λ (t : List ℕ). text ++ t) (sym (join_spaced (codes "tick") (decimal node ∷ decimal shard ∷ decimal ms ∷ [])))
+  where
+    regroup : (a b c d e : List ℕ) → (((a ++ b) ++ ((32 ∷ c) ++ [])) ++ ((32 ∷ d) ++ [])) ++ e ≡ a ++ (b ++ ((32 ∷ c) ++ ((32 ∷ d) ++ e)))
+    regroup a b c d e = simp (append-nil, append_assoc)
+
+-- ---- deltas
+
+-- the first number, and the others behind commas
+join_commas : (w : List ℕ) (ws : List (List ℕ)) → join_with_byte 44 (w ∷ ws) ≡ w ++ flat_map behind_comma ws
+join_commas w [] = sym (append-nil w)
+join_commas w (next ∷ ws) = ap (λ (t : List ℕ). w ++ 44 ∷ t) (join_commas next ws)
+
+pub deltas_text : (text ds : List ℕ) (d : ℕ) (rest : List ℕ) → ds ≡ d ∷ rest → ((text ++ codes " seq=") ++ decimal d) ++ flat_map behind_comma (map decimal rest) ≡ text ++ spaced (deltas_words ds)
+deltas_text text ds d rest e =
+    let line : numbers_text (d ∷ rest) ≡ decimal d ++ flat_map behind_comma (map decimal rest) = join_commas (decimal d) (map decimal rest) in
+    regroup text (codes " seq=") (decimal d) (flat_map behind_comma (map decimal rest))
+    ∙ ap (λ (t : List ℕ). text ++ (codes " seq=" ++ t)) (sym line)
+    ∙ ap (λ (t : List ℕ). text ++ (codes " seq=" ++ t)) (sym (append-nil (numbers_text (d ∷ rest))))
+    ∙ ap (λ (ns : List ℕ). text ++ spaced (deltas_words ns)) (sym e)
+  where
+    regroup : (a b c d : List ℕ) → ((a ++ b) ++ c) ++ d ≡ a ++ (b ++ (c ++ d))
+    regroup a b c d = simp append_assoc

@@ -24,3 +24,7 @@ plus_words follows = if follows then codes "+" ∷ [] else []
 abbrev pub ops_behind : Bool → List (List (List ℕ)) → List (List ℕ)
 ops_behind follows [] = []
 ops_behind follows (op ∷ ops) = plus_words follows ++ joined (op ∷ ops)
+
+-- a word behind a comma
+abbrev pub behind_comma : List ℕ → List ℕ
+behind_comma w = 44 ∷ w

@@ -38,6 +38,15 @@ get_fits (compare ∷ ws) = is_compare compare && nat_le 1 (length ws) && nat_le
 abbrev pub range_fits : ℕ → Bool
 range_fits count = nat_le 2 count && nat_le count 3
 
+-- a request that isn't a read of records and no batch: notices with two numbers, a session's with one, or a write
+unfoldable pub single_fits : List ℕ → ℕ → Bool
+single_fits verb count =
+    if bytes_eq verb (codes "notices") then count == 2
+    else (if bytes_eq verb (codes "open") then count == 1
+    else (if bytes_eq verb (codes "close") then count == 1
+    else (if bytes_eq verb (codes "keep") then count == 1
+    else write_fits verb count)))
+
 -- the words of a request
 unfoldable pub request_fits : List (List ℕ) → Bool
 request_fits [] = false
@@ -46,7 +55,7 @@ request_fits (verb ∷ ws) =
     else (if bytes_eq verb (codes "get") then get_fits ws
     else (if bytes_eq verb (codes "list") then range_fits (length ws)
     else (if bytes_eq verb (codes "scan") then range_fits (length ws)
-    else write_fits verb (length ws))))
+    else single_fits verb (length ws))))
 
 -- behind `client`: a node, a shard and a request
 abbrev pub client_fits : List (List ℕ) → Bool
@@ -54,7 +63,9 @@ client_fits [] = false
 client_fits (node ∷ []) = false
 client_fits (node ∷ shard ∷ ws) = request_fits ws
 
--- the words of an event
+-- the words of an event: behind `tick` a node, a shard and a time
 unfoldable pub event_fits : List (List ℕ) → Bool
 event_fits [] = false
-event_fits (verb ∷ ws) = bytes_eq verb (codes "client") && client_fits ws
+event_fits (verb ∷ ws) =
+    if bytes_eq verb (codes "client") then client_fits ws
+    else (if bytes_eq verb (codes "tick") then length ws == 3 else false)

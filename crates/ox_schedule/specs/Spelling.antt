@@ -1,8 +1,9 @@
 -- The grammar of a line: the words of each construct, and which constructs are lawful. A line is the words of its event.
-use Rattle.std.specs.Prelude.{◌≡◌, ℕ, ◌^◌, Bool, true, false, not, ◌&&◌, ◌||◌, ◌==◌, nat_le, nat_lt, is_none, List, [], ◌∷◌, ◌++◌, length, map, codes, decimal, if◌then◌else◌}
+use Rattle.std.specs.Prelude.{◌≡◌, ℕ, ◌^◌, Bool, true, false, not, ◌&&◌, ◌||◌, ◌==◌, nat_le, nat_lt, List, [], ◌∷◌, ◌++◌, length, map, Option, Some, None, codes, decimal, if◌then◌else◌}
 use Rattle.std.specs.List.{list_all, flat_map, slice_split, join_with_byte}
 use Rattle.percent_encoding.specs.Percent.{percent_encode_byte}
 use Rattle.ox_bytes.specs.Fields as field
+use Rattle.ox_ops.specs.Forms as form
 use Rattle.ox_order.specs.declared.range.Lo.{Lo}
 use Rattle.ox_order.specs.declared.range.Lo.TheVariants.{Start, At, Past}
 use Rattle.ox_order.specs.declared.range.Hi.{Hi}
@@ -10,6 +11,7 @@ use Rattle.ox_order.specs.declared.range.Hi.TheVariants.{End, Before}
 use Rattle.ox_order.specs.declared.range.KeyRange.{KeyRange}
 use Rattle.ox_ops.specs.declared.write.Expect.{Expect}
 use Rattle.ox_ops.specs.declared.write.Expect.TheVariants.{Any, Absent, Exactly}
+use Rattle.ox_ops.specs.declared.write.IndexEntry.{IndexEntry}
 use Rattle.ox_ops.specs.declared.write.Put.{Put}
 use Rattle.ox_ops.specs.declared.write.Delete.{Delete}
 use Rattle.ox_ops.specs.declared.write.WriteBatch.{WriteBatch}
@@ -24,7 +26,7 @@ use Rattle.ox_schedule.specs.declared.schedule.Grouping.TheVariants as grouping
 use Rattle.ox_schedule.specs.declared.schedule.Request.{Request}
 use Rattle.ox_schedule.specs.declared.schedule.Request.TheVariants.{Write, Read}
 use Rattle.ox_schedule.specs.declared.schedule.Event.{Event}
-use Rattle.ox_schedule.specs.declared.schedule.Event.TheVariants.{Client}
+use Rattle.ox_schedule.specs.declared.schedule.Event.TheVariants.{Client, Tick}
 use Rattle.ox_schedule.specs.declared.schedule.Places.{Places}
 
 -- ---- bytes and numbers
@@ -53,6 +55,10 @@ is_key key = list_all is_byte key && field.is_key key
 unfoldable pub is_value : List ℕ → Bool
 is_value value = list_all is_byte value && field.is_value value
 
+-- bytes that are the name of an index
+unfoldable pub is_name : List ℕ → Bool
+is_name name = list_all is_byte name && form.is_name name
+
 -- a number of a schedule is any u64
 abbrev pub is_number : ℕ → Bool
 is_number n = nat_lt n (2 ^ 64)
@@ -61,11 +67,11 @@ is_number n = nat_lt n (2 ^ 64)
 abbrev pub value_word : List ℕ → List ℕ
 value_word value = if length value == 0 then codes "*" else spelt value
 
--- no items, as of a list that can't be spelt yet
+-- no items
 abbrev pub is_empty : {A : Type 0} → List A → Bool
 is_empty xs = length xs == 0
 
--- ---- expectations and ranges
+-- ---- options
 
 -- the option of an expectation, where it isn't that of anything
 abbrev pub expect_words : Expect → List (List ℕ)
@@ -78,6 +84,45 @@ abbrev pub is_expect : Expect → Bool
 is_expect Any = true
 is_expect Absent = true
 is_expect (Exactly n) = is_number n
+
+-- the option of a session, where there is one
+abbrev pub session_words : Option ℕ → List (List ℕ)
+session_words None = []
+session_words (Some id) = (codes "session=" ++ decimal id) ∷ []
+
+-- a session that can be spelt
+abbrev pub is_session : Option ℕ → Bool
+is_session None = true
+is_session (Some id) = is_number id
+
+-- numbers with a comma between two
+abbrev pub numbers_text : List ℕ → List ℕ
+numbers_text ns = join_with_byte 44 (map decimal ns)
+
+-- the option of the deltas, where there are any
+abbrev pub deltas_words : List ℕ → List (List ℕ)
+deltas_words [] = []
+deltas_words (d ∷ ds) = (codes "seq=" ++ numbers_text (d ∷ ds)) ∷ []
+
+-- the option of an index entry: its name, a colon and its key
+abbrev pub entry_word : IndexEntry → List ℕ
+entry_word e = codes "index=" ++ (spelt e.name ++ (codes ":" ++ spelt e.key))
+
+-- an index entry that can be spelt
+abbrev pub is_entry : IndexEntry → Bool
+is_entry e = is_name e.name && is_key e.key
+
+-- the option of an index, where a read goes by one
+abbrev pub by_words : Option (List ℕ) → List (List ℕ)
+by_words None = []
+by_words (Some name) = (codes "by=" ++ spelt name) ∷ []
+
+-- an index that can be spelt
+abbrev pub is_by : Option (List ℕ) → Bool
+is_by None = true
+is_by (Some name) = is_name name
+
+-- ---- ranges
 
 -- the low end of a range: from the beginning, from a key, or past it
 abbrev pub lo_word : Lo → List ℕ
@@ -111,13 +156,21 @@ is_range r = is_lo r.lo && is_hi r.hi
 
 -- ---- operations
 
--- behind `put`: the key, the value and the option
-abbrev pub put_words : Put → List (List ℕ)
-put_words p = spelt p.key ∷ value_word p.value ∷ expect_words p.expect
+-- the options of a put, in their order
+abbrev pub put_options : Put → List (List ℕ)
+put_options p = expect_words p.expect ++ (session_words p.session ++ (deltas_words p.deltas ++ map entry_word p.indexes))
 
--- a put that can be spelt: until there are options for them, one without session, deltas and index entries
+-- behind `put`: the key, the value and the options
+abbrev pub put_words : Put → List (List ℕ)
+put_words p = spelt p.key ∷ value_word p.value ∷ put_options p
+
+-- options that can be spelt
+abbrev pub are_options : Put → Bool
+are_options p = is_expect p.expect && is_session p.session && list_all is_number p.deltas && list_all is_entry p.indexes
+
+-- a put that can be spelt
 abbrev pub is_put : Put → Bool
-is_put p = is_key p.key && is_value p.value && is_expect p.expect && is_none p.session && is_empty p.deltas && is_empty p.indexes
+is_put p = is_key p.key && is_value p.value && are_options p
 
 -- behind `delete`: the key and the option
 abbrev pub delete_words : Delete → List (List ℕ)
@@ -158,6 +211,11 @@ abbrev pub is_grouped : Grouping → ℕ → Bool
 is_grouped grouping.Alone count = count == 1
 is_grouped grouping.Batch count = not (count == 0)
 
+-- what isn't an operation stands by itself
+abbrev pub is_alone : Grouping → Bool
+is_alone grouping.Alone = true
+is_alone grouping.Batch = false
+
 -- the word before the operations
 abbrev pub grouping_words : Grouping → List (List ℕ)
 grouping_words grouping.Alone = []
@@ -172,11 +230,11 @@ command_words g (command.Open timeout) = codes "open" ∷ decimal timeout ∷ []
 command_words g (command.Close session) = codes "close" ∷ decimal session ∷ []
 command_words g (command.Expire session) = codes "expire" ∷ decimal session ∷ []
 
--- a command that can be spelt: until there are sessions, a write
+-- a command that can be spelt: a write, an open or a close, as leaders alone make an expiry
 abbrev pub is_command : Grouping → ShardCommand → Bool
 is_command g (command.Write b) = are_lawful b && is_grouped g (length (batch_ops b))
-is_command g (command.Open timeout) = false
-is_command g (command.Close session) = false
+is_command g (command.Open timeout) = is_alone g && is_number timeout
+is_command g (command.Close session) = is_alone g && is_number session
 is_command g (command.Expire session) = false
 
 -- the word of a comparison
@@ -189,19 +247,19 @@ compare_word Higher = codes "higher"
 
 -- the words of a query
 abbrev pub query_words : ShardQuery → List (List ℕ)
-query_words (query.Get compare key by) = codes "get" ∷ compare_word compare ∷ spelt key ∷ []
-query_words (query.List r by) = codes "list" ∷ range_words r
-query_words (query.Scan r by) = codes "scan" ∷ range_words r
-query_words (query.Notices n skip) = codes "notices" ∷ decimal n ∷ decimal skip ∷ []
+query_words (query.Get compare key by) = codes "get" ∷ compare_word compare ∷ spelt key ∷ by_words by
+query_words (query.List r by) = codes "list" ∷ range_words r ++ by_words by
+query_words (query.Scan r by) = codes "scan" ∷ range_words r ++ by_words by
+query_words (query.Notices past skip) = codes "notices" ∷ decimal past ∷ decimal skip ∷ []
 query_words (query.KeepAlive session) = codes "keep" ∷ decimal session ∷ []
 
--- a query that can be spelt: until there are indexes, notices and sessions, one by the key order
+-- a query that can be spelt
 abbrev pub is_query : ShardQuery → Bool
-is_query (query.Get compare key by) = is_key key && is_none by
-is_query (query.List r by) = is_range r && is_none by
-is_query (query.Scan r by) = is_range r && is_none by
-is_query (query.Notices n skip) = false
-is_query (query.KeepAlive session) = false
+is_query (query.Get compare key by) = is_key key && is_by by
+is_query (query.List r by) = is_range r && is_by by
+is_query (query.Scan r by) = is_range r && is_by by
+is_query (query.Notices past skip) = is_number past && is_number skip
+is_query (query.KeepAlive session) = is_number session
 
 -- the words of a request
 abbrev pub request_words : Request → List (List ℕ)
@@ -216,6 +274,7 @@ is_request (Read query) = is_query query
 -- the words of an event
 abbrev pub event_words : Event → List (List ℕ)
 event_words (Client node shard r) = codes "client" ∷ decimal node ∷ decimal shard ∷ request_words r
+event_words (Tick node shard ms) = codes "tick" ∷ decimal node ∷ decimal shard ∷ decimal ms ∷ []
 
 -- the line of an event: its words with one space between two
 unfoldable pub event_line : Event → List ℕ
@@ -232,6 +291,7 @@ is_shard p s = nat_lt s p.shards
 -- an event at a node and a shard that are there
 abbrev pub is_event : Places → Event → Bool
 is_event p (Client node shard r) = is_number node && is_node p node && is_number shard && is_shard p shard && is_request r
+is_event p (Tick node shard ms) = is_number node && is_node p node && is_number shard && is_shard p shard && is_number ms
 
 -- the line spells the event, among these places
 pub record SpellsEvent (places : Places) (line : List ℕ) (e : Event) : Type 0 where

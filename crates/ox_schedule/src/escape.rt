@@ -4,13 +4,14 @@ ghost use Rattle.std.specs.Str.{bytes_eq};
 ghost use Rattle.std.specs.String.{string_bytes};
 ghost use Rattle.std.specs.List.{list_all};
 ghost use Rattle.percent_encoding.specs.Percent.{percent_decode};
+ghost use Rattle.ox_ops.specs.Forms as form;
 ghost use Rattle.ox_schedule.specs.Outcome.{Gives};
 ghost use Rattle.ox_schedule.specs.Spelling.{spelt, value_word, is_byte};
-ghost use Rattle.ox_schedule.specs.Reading.{key_of, value_of, value_guess};
+ghost use Rattle.ox_schedule.specs.Reading.{key_of, value_of, value_guess, name_of};
 
 use crate::fault::LineFault;
 use crate::word::is;
-use ox_types::{Key, LineRule, NoMemory, Value};
+use ox_types::{Key, LineRule, NoMemory, Octets, Value};
 use percent_encoding::{AsciiSet, NON_ALPHANUMERIC, ascii_set, percent_decode, percent_encode};
 use std::alloc::Global;
 
@@ -96,4 +97,25 @@ pub fn read_value(alloc: Global, word: &[u8]) -> Result<Value, LineFault>
         Ok(value) => Ok(value),
         Err(_) => Err(LineFault::Rule(LineRule::Value)),
     }
+}
+
+/// Whether the bytes are as many as a name may have.
+fn is_name(bytes: &[u8]) -> bool
+    ensures { result ≡ form.is_name bytes.now }
+{
+    1 <= bytes.len() && bytes.len() <= 255
+}
+
+/// The name of an index that a word says.
+pub fn read_name(alloc: Global, word: &[u8]) -> Result<Octets, LineFault>
+    ensures { Gives (λ name. name) result (name_of word.now) }
+{
+    let name = decoded(alloc, word)?;
+    if !is_spelling(alloc, word, name.as_slice())? {
+        return Err(LineFault::Rule(LineRule::Option));
+    }
+    if !is_name(name.as_slice()) {
+        return Err(LineFault::Rule(LineRule::Option));
+    }
+    Ok(Octets::from_vec(name))
 }

@@ -1,22 +1,17 @@
-// Fields, options and operations, each at the front of the words that are left.
+// Fields and operations, each at the front of the words that are left.
 ghost use Rattle.std.specs.Prelude.{◌≡◌, map};
-ghost use Rattle.std.specs.Option.{option_map};
 ghost use Rattle.ox_schedule.specs.Outcome.{Gives};
-ghost use Rattle.ox_schedule.specs.Reading.{after, key_at, value_at, expect_of, expect_at, options_end, lo_of, hi_of, compare_of, range_of, put_of, delete_of, get_of};
+ghost use Rattle.ox_schedule.specs.Reading.{key_at, value_at, number_at, single_of, notices_of, lo_of, hi_of, compare_of, range_at, range_of, put_of, delete_of, get_of, ends_of};
 
 use crate::escape::{read_key, read_value};
 use crate::fault::LineFault;
-use crate::word::{first_word, is, next_word, read_number};
-use ox_ops::{Compare, Delete, Expect, Hi, KeyRange, Lo, Put, ShardQuery};
-use ox_types::{Key, LineRule, List, Value};
+use crate::options::{
+    deltas_option, expect_option, no_option, option_text, read_entries, read_index, session_option,
+};
+use crate::word::{is, next_word, read_number};
+use ox_ops::{Compare, Delete, Hi, KeyRange, Lo, Put, ShardQuery};
+use ox_types::{Key, LineRule, Octets, Value};
 use std::alloc::Global;
-
-/// What follows the name at the front of a word.
-fn option_text<'a>(word: &'a [u8], name: &[u8]) -> Option<&'a [u8]>
-    ensures { option_map (λ t. t.now) result ≡ after name.now word.now }
-{
-    word.strip_prefix(name)
-}
 
 #[tactic(auto, unfolding(crate::specs::Reading::key_at))]
 fn key_field<'a, 'b>(
@@ -40,36 +35,30 @@ fn value_field<'a, 'b>(
     Ok((read_value(alloc, word)?, rest))
 }
 
-#[tactic(auto, unfolding(crate::specs::Reading::expect_of))]
-fn read_expect(text: &[u8]) -> Result<Expect, LineFault>
-    ensures { Gives (λ e. e) result (expect_of text.now) }
+#[tactic(auto, unfolding(crate::specs::Reading::number_at))]
+fn number_field<'a, 'b>(words: &'b [&'a [u8]]) -> Result<(u64, &'b [&'a [u8]]), LineFault>
+    ensures { Gives (λ x. (x.0, map (λ w. w.now) x.1.now)) result (number_at (map (λ w. w.now) words.now)) }
 {
-    if is(text, b"absent") {
-        return Ok(Expect::Absent);
-    }
-    Ok(Expect::Exactly(read_number(text)?))
+    let (word, rest) = next_word(words)?;
+    Ok((read_number(word)?, rest))
 }
 
-#[tactic(auto, unfolding(crate::specs::Reading::expect_at))]
-fn expect_option<'a, 'b>(words: &'b [&'a [u8]]) -> Result<(Expect, &'b [&'a [u8]]), LineFault>
-    ensures { Gives (λ x. (x.0, map (λ w. w.now) x.1.now)) result (expect_at (map (λ w. w.now) words.now)) }
+#[tactic(auto, unfolding(crate::specs::Reading::single_of))]
+pub fn read_single(words: &[&[u8]]) -> Result<u64, LineFault>
+    ensures { Gives (λ n. n) result (single_of (map (λ w. w.now) words.now)) }
 {
-    let Some((word, rest)) = first_word(words) else {
-        return Ok((Expect::Any, words));
-    };
-    let Some(text) = option_text(word, b"expect=") else {
-        return Ok((Expect::Any, words));
-    };
-    Ok((read_expect(text)?, rest))
+    let (number, rest) = number_field(words)?;
+    no_option(rest)?;
+    Ok(number)
 }
 
-fn no_option(words: &[&[u8]]) -> Result<(), LineFault>
-    ensures { Gives (λ x. tt) result (options_end (map (λ w. w.now) words.now)) }
+#[tactic(auto, unfolding(crate::specs::Reading::notices_of))]
+pub fn read_notices(words: &[&[u8]]) -> Result<ShardQuery, LineFault>
+    ensures { Gives (λ q. q) result (notices_of (map (λ w. w.now) words.now)) }
 {
-    match words {
-        [] => Ok(()),
-        [_, ..] => Err(LineFault::Rule(LineRule::Option)),
-    }
+    let (after, rest) = number_field(words)?;
+    let skip = read_single(rest)?;
+    Ok(ShardQuery::Notices { after, skip })
 }
 
 #[tactic(auto, unfolding(crate::specs::Reading::lo_of))]
@@ -114,16 +103,37 @@ fn read_compare(word: &[u8]) -> Result<Compare, LineFault>
     }
 }
 
-#[tactic(auto, unfolding(crate::specs::Reading::range_of))]
-pub fn read_range(alloc: Global, words: &[&[u8]]) -> Result<KeyRange, LineFault>
-    ensures { Gives (λ x. x) result (range_of (map (λ w. w.now) words.now)) }
+#[tactic(auto, unfolding(crate::specs::Reading::range_at))]
+fn range_field<'a, 'b>(
+    alloc: Global,
+    words: &'b [&'a [u8]],
+) -> Result<(KeyRange, &'b [&'a [u8]]), LineFault>
+    ensures { Gives (λ x. (x.0, map (λ w. w.now) x.1.now)) result (range_at (map (λ w. w.now) words.now)) }
 {
     let (word, rest) = next_word(words)?;
     let lo = read_lo(alloc, word)?;
     let (word, rest) = next_word(rest)?;
     let hi = read_hi(alloc, word)?;
+    Ok((KeyRange { lo, hi }, rest))
+}
+
+#[tactic(auto, unfolding(crate::specs::Reading::range_of))]
+pub fn read_range(alloc: Global, words: &[&[u8]]) -> Result<KeyRange, LineFault>
+    ensures { Gives (λ x. x) result (range_of (map (λ w. w.now) words.now)) }
+{
+    let (range, rest) = range_field(alloc, words)?;
     no_option(rest)?;
-    Ok(KeyRange { lo, hi })
+    Ok(range)
+}
+
+/// The range of a list or a scan, and its index.
+#[tactic(auto, unfolding(crate::specs::Reading::ends_of))]
+pub fn read_ends(alloc: Global, words: &[&[u8]]) -> Result<(KeyRange, Option<Octets>), LineFault>
+    ensures { Gives (λ x. x) result (ends_of (map (λ w. w.now) words.now)) }
+{
+    let (range, rest) = range_field(alloc, words)?;
+    let by = read_index(alloc, rest)?;
+    Ok((range, by))
 }
 
 #[tactic(auto, unfolding(crate::specs::Reading::put_of))]
@@ -133,14 +143,16 @@ pub fn read_put(alloc: Global, words: &[&[u8]]) -> Result<Put, LineFault>
     let (key, rest) = key_field(alloc, words)?;
     let (value, rest) = value_field(alloc, rest)?;
     let (expect, rest) = expect_option(rest)?;
-    no_option(rest)?;
+    let (session, rest) = session_option(rest)?;
+    let (deltas, rest) = deltas_option(alloc, rest)?;
+    let indexes = read_entries(alloc, rest)?;
     Ok(Put {
         key,
         value,
         expect,
-        session: None,
-        deltas: List::new(alloc),
-        indexes: List::new(alloc),
+        session,
+        deltas,
+        indexes,
     })
 }
 
@@ -161,10 +173,6 @@ pub fn read_get(alloc: Global, words: &[&[u8]]) -> Result<ShardQuery, LineFault>
     let (word, rest) = next_word(words)?;
     let compare = read_compare(word)?;
     let (key, rest) = key_field(alloc, rest)?;
-    no_option(rest)?;
-    Ok(ShardQuery::Get {
-        compare,
-        key,
-        by: None,
-    })
+    let by = read_index(alloc, rest)?;
+    Ok(ShardQuery::Get { compare, key, by })
 }

@@ -6,6 +6,7 @@ mod fault;
 mod field;
 mod law;
 mod line;
+mod options;
 mod reading;
 mod schedule;
 mod shape;

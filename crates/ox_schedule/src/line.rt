@@ -2,14 +2,17 @@
 ghost use Rattle.std.specs.Prelude.{◌≡◌, ◌==◌, ℕ, List, map, IfOk};
 ghost use Rattle.std.specs.List.{list_all};
 ghost use Rattle.ox_ops.specs.declared.write.ShardCommand.TheVariants as command;
+ghost use Rattle.ox_schedule.specs.declared.schedule.Grouping.TheVariants as grouping;
 ghost use Rattle.ox_schedule.specs.declared.schedule.Request.TheVariants.{Write};
 ghost use Rattle.ox_schedule.specs.Outcome.{Gives};
 ghost use Rattle.ox_schedule.specs.Shape.{ops_in};
 ghost use Rattle.ox_schedule.specs.Spelling.{words_of, is_printable, is_word as is_word_text};
-ghost use Rattle.ox_schedule.specs.Reading.{empty_batch, op_onto, ops_onto, batch_of, request_of, node_at, shard_at, client_of, event_of, line_at};
+ghost use Rattle.ox_schedule.specs.Reading.{empty_batch, op_onto, ops_onto, batch_of, alone_of, request_of, node_at, shard_at, client_of, tick_of, event_of, line_at};
 
 use crate::fault::LineFault;
-use crate::field::{read_delete, read_get, read_put, read_range};
+use crate::field::{
+    read_delete, read_ends, read_get, read_notices, read_put, read_range, read_single,
+};
 use crate::schedule::{Event, Grouping, Places, Request};
 use crate::shape::{first_op, is_event};
 use crate::word::{is, next_word, read_number};
@@ -82,6 +85,37 @@ fn write_request(grouping: Grouping, batch: WriteBatch) -> Request
     Request::Write { grouping, command }
 }
 
+fn session_request(command: ShardCommand) -> Request
+    ensures { result ≡ Write grouping.Alone command }
+{
+    let grouping = Grouping::Alone;
+    Request::Write { grouping, command }
+}
+
+#[tactic(auto, unfolding(crate::specs::Reading::alone_of))]
+fn read_alone(alloc: Global, words: &[&[u8]]) -> Result<Request, LineFault>
+    ensures { Gives (λ x. x) result (alone_of (map (λ w. w.now) words.now)) }
+{
+    let (verb, rest) = next_word(words)?;
+    if is(verb, b"notices") {
+        return Ok(Request::Read(read_notices(rest)?));
+    }
+    if is(verb, b"open") {
+        let timeout = read_single(rest)?;
+        return Ok(session_request(ShardCommand::Open { timeout }));
+    }
+    if is(verb, b"close") {
+        let session = read_single(rest)?;
+        return Ok(session_request(ShardCommand::Close { session }));
+    }
+    if is(verb, b"keep") {
+        let session = read_single(rest)?;
+        return Ok(Request::Read(ShardQuery::KeepAlive { session }));
+    }
+    let batch = with_op(alloc, new_batch(alloc), words)?;
+    Ok(write_request(Grouping::Alone, batch))
+}
+
 #[tactic(auto, unfolding(crate::specs::Reading::request_of))]
 fn read_request(alloc: Global, words: &[&[u8]]) -> Result<Request, LineFault>
     ensures { Gives (λ x. x) result (request_of (map (λ w. w.now) words.now)) }
@@ -94,15 +128,14 @@ fn read_request(alloc: Global, words: &[&[u8]]) -> Result<Request, LineFault>
         return Ok(Request::Read(read_get(alloc, rest)?));
     }
     if is(verb, b"list") {
-        let range = read_range(alloc, rest)?;
-        return Ok(Request::Read(ShardQuery::List { range, by: None }));
+        let (range, by) = read_ends(alloc, rest)?;
+        return Ok(Request::Read(ShardQuery::List { range, by }));
     }
     if is(verb, b"scan") {
-        let range = read_range(alloc, rest)?;
-        return Ok(Request::Read(ShardQuery::Scan { range, by: None }));
+        let (range, by) = read_ends(alloc, rest)?;
+        return Ok(Request::Read(ShardQuery::Scan { range, by }));
     }
-    let batch = with_op(alloc, new_batch(alloc), words)?;
-    Ok(write_request(Grouping::Alone, batch))
+    read_alone(alloc, words)
 }
 
 #[tactic(auto, unfolding(crate::specs::Reading::node_at))]
@@ -149,6 +182,16 @@ fn read_client(alloc: Global, places: Places, words: &[&[u8]]) -> Result<Event, 
     })
 }
 
+#[tactic(auto, unfolding(crate::specs::Reading::tick_of))]
+fn read_tick(places: Places, words: &[&[u8]]) -> Result<Event, LineFault>
+    ensures { Gives (λ x. x) result (tick_of places (map (λ w. w.now) words.now)) }
+{
+    let (node, rest) = node_field(places, words)?;
+    let (shard, rest) = shard_field(places, rest)?;
+    let ms = read_single(rest)?;
+    Ok(Event::Tick { node, shard, ms })
+}
+
 #[tactic(auto, unfolding(crate::specs::Reading::event_of))]
 fn read_event(alloc: Global, places: Places, words: &[&[u8]]) -> Result<Event, LineFault>
     ensures { Gives (λ x. x) result (event_of places (map (λ w. w.now) words.now)) }
@@ -156,6 +199,9 @@ fn read_event(alloc: Global, places: Places, words: &[&[u8]]) -> Result<Event, L
     let (verb, rest) = next_word(words)?;
     if is(verb, b"client") {
         return read_client(alloc, places, rest);
+    }
+    if is(verb, b"tick") {
+        return read_tick(places, rest);
     }
     Err(LineFault::Rule(LineRule::Word))
 }

@@ -29,6 +29,12 @@ pub enum Event {
         shard: u64,
         request: Request,
     },
+    /// A node's clock comes to this time (ms) at one shard. Any number may stand here.
+    Tick {
+        node: u64,
+        shard: u64,
+        ms: u64,
+    },
 }
 
 /// How many there are. Nodes are numbered from 1, shards from 0.

@@ -3,7 +3,7 @@ ghost use Rattle.std.specs.Prelude.{◌≡◌, ◌∷◌, ◌<◌, map, length, 
 ghost use Rattle.std.specs.Option.{option_map};
 ghost use Rattle.std.specs.List.{list_all};
 ghost use Rattle.std.specs.Str.{bytes_eq};
-ghost use Rattle.ox_schedule.specs.Shape.{ops_in, ops_left, is_compare as is_compare_word, write_fits, op_fits, get_fits, range_fits, request_fits, client_fits, event_fits};
+ghost use Rattle.ox_schedule.specs.Shape.{ops_in, ops_left, is_compare as is_compare_word, write_fits, op_fits, get_fits, range_fits, single_fits, request_fits, client_fits, event_fits};
 
 use crate::word::{first_word, is};
 
@@ -87,6 +87,19 @@ fn are_ops(words: &[&[u8]]) -> bool
     true
 }
 
+#[tactic(auto, unfolding(crate::specs::Shape::single_fits))]
+fn is_single(verb: &[u8], count: usize) -> bool
+    ensures { result ≡ single_fits verb.now count }
+{
+    if is(verb, b"notices") {
+        count == 2
+    } else if is(verb, b"open") || is(verb, b"close") || is(verb, b"keep") {
+        count == 1
+    } else {
+        is_write(verb, count)
+    }
+}
+
 #[tactic(auto, unfolding(crate::specs::Shape::request_fits))]
 fn is_request(words: &[&[u8]]) -> bool
     ensures { result ≡ request_fits (map (λ w. w.now) words.now) }
@@ -103,7 +116,7 @@ fn is_request(words: &[&[u8]]) -> bool
     if is(verb, b"list") || is(verb, b"scan") {
         return is_range(rest.len());
     }
-    is_write(verb, rest.len())
+    is_single(verb, rest.len())
 }
 
 fn is_client(words: &[&[u8]]) -> bool
@@ -123,8 +136,11 @@ fn is_client(words: &[&[u8]]) -> bool
 pub fn is_event(words: &[&[u8]]) -> bool
     ensures { result ≡ event_fits (map (λ w. w.now) words.now) }
 {
-    match first_word(words) {
-        Some((verb, rest)) => is(verb, b"client") && is_client(rest),
-        None => false,
+    let Some((verb, rest)) = first_word(words) else {
+        return false;
+    };
+    if is(verb, b"client") {
+        return is_client(rest);
     }
+    is(verb, b"tick") && rest.len() == 3
 }

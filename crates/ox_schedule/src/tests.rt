@@ -34,7 +34,7 @@ fn written(alloc: Global, text: &[u8]) -> Result<Octets, NoMemory> {
 #[test]
 fn events_are_written_as_they_are_read(rt: HostRuntime) -> Result<(), Fail> {
     let lines =
-        b"client 1 0 put a/b-c_d.E9 %25%0A%FF expect=absent\nclient 1 0 put %2A * expect=18446744073709551615\nclient 1 0 delete a\nclient 1 0 delete a expect=0\nclient 1 0 deleterange * %20\nclient 1 0 deleterange >a b\nclient 1 0 batch put a *\nclient 1 0 batch put a * + put b x expect=0 + delete c + deleterange >a b + deleterange b *\nclient 1 0 batch delete c + delete d\nclient 1 0 get equal a\nclient 1 0 get floor a\nclient 1 0 get ceiling a\nclient 1 0 get lower a\nclient 1 0 get higher a\nclient 1 0 list * *\nclient 1 0 scan a *\n";
+        b"client 1 0 put a/b-c_d.E9 %25%0A%FF expect=absent\nclient 1 0 put %2A * expect=18446744073709551615\nclient 1 0 delete a\nclient 1 0 delete a expect=0\nclient 1 0 deleterange * %20\nclient 1 0 deleterange >a b\nclient 1 0 batch put a *\nclient 1 0 batch put a * + put b x expect=0 + delete c + deleterange >a b + deleterange b *\nclient 1 0 batch delete c + delete d\nclient 1 0 get equal a\nclient 1 0 get floor a\nclient 1 0 get ceiling a\nclient 1 0 get lower a\nclient 1 0 get higher a\nclient 1 0 list * *\nclient 1 0 scan a *\nclient 1 0 put a x expect=0 session=5 seq=1,0,18446744073709551615 index=n:k index=n%3A:%2A\nclient 1 0 put a * session=18446744073709551615\nclient 1 0 put a x seq=0\nclient 1 0 put a x index=n:k index=n:k index=%FF:a/b\nclient 1 0 batch put a x session=1 + put b * seq=5,5 index=n:b + delete c expect=1\nclient 1 0 get lower a by=n\nclient 1 0 list * * by=%2A\nclient 1 0 scan >a b by=a/b\nclient 1 0 open 5000\nclient 1 0 close 18446744073709551615\nclient 1 0 keep 0\nclient 1 0 notices 0 18446744073709551615\ntick 1 0 0\ntick 1 0 18446744073709551615\n";
     let mut text = Octets::from_slice(rt.alloc(), b"solo 1\n")?;
     text.extend(lines.as_slice())?;
     let again = written(rt.alloc(), text.as_slice())?;
@@ -80,25 +80,30 @@ fn bad_first_lines(rt: HostRuntime) -> Result<(), Fail> {
 
 #[test]
 fn bad_words(rt: HostRuntime) -> Result<(), Fail> {
-    let cases: [(&[u8], LineRule); 29] = [
+    let cases: [(&[u8], LineRule); 34] = [
         (b"client 1 0 put a\x7f x", LineRule::Bytes),
         (b"client 1 0 put a\xc3 x", LineRule::Bytes),
         (b"client 1 0 put a x \n", LineRule::Bytes),
         (b"client 1  0 frob", LineRule::Bytes),
         (b"client 1 0 put a x\r\n", LineRule::Bytes),
         (b"\n", LineRule::Word),
-        (b"tick 1 0 5", LineRule::Word),
+        (b"tick 1 0", LineRule::Word),
+        (b"tick 1 0 x 5", LineRule::Word),
         (b"client x 0 frob", LineRule::Word),
-        (b"client 1 0 open 5000", LineRule::Word),
-        (b"client 1 0 close 1", LineRule::Word),
-        (b"client 1 0 keep 1", LineRule::Word),
-        (b"client 1 0 notices 0 0", LineRule::Word),
+        (b"client 1 0 open x 1", LineRule::Word),
+        (b"client 1 0 close", LineRule::Word),
+        (b"client 1 0 keep 1 1", LineRule::Word),
+        (b"client 1 0 notices 0", LineRule::Word),
+        (b"client 1 0 expire 1", LineRule::Word),
+        (b"client 1 0 batch open 1", LineRule::Word),
         (b"client 1 0", LineRule::Word),
         (b"client 1 0 put %41", LineRule::Word),
         (b"client 1 0 delete %41 frob frob", LineRule::Word),
         (b"client 1 0 deleterange a b c", LineRule::Word),
         (b"client 1 0 get equals a", LineRule::Word),
         (b"client 1 0 get equal a b c", LineRule::Word),
+        (b"client 1 0 get equal % by=n by=n", LineRule::Word),
+        (b"client 1 0 deleterange a b by=n", LineRule::Word),
         (b"client 1 0 list *", LineRule::Word),
         (b"client 1 0 scan * * a b", LineRule::Word),
         (b"client 1 0 batch", LineRule::Word),
@@ -128,7 +133,7 @@ fn bad_words(rt: HostRuntime) -> Result<(), Fail> {
 
 #[test]
 fn bad_fields(rt: HostRuntime) -> Result<(), Fail> {
-    let cases: [(&[u8], LineRule); 38] = [
+    let cases: [(&[u8], LineRule); 39] = [
         (b"client 01 0 put % %", LineRule::Number),
         (b"client x 0 put % %", LineRule::Number),
         (b"client 2 x put % %", LineRule::Name),
@@ -137,6 +142,16 @@ fn bad_fields(rt: HostRuntime) -> Result<(), Fail> {
         (b"client 18446744073709551615 0 put a b", LineRule::Name),
         (b"client 0 0 put % %", LineRule::Name),
         (b"client 1 1 put % %", LineRule::Name),
+        (b"client 1 0 open x", LineRule::Number),
+        (b"client 1 0 close 01", LineRule::Number),
+        (
+            b"client 1 0 notices 0 18446744073709551616",
+            LineRule::Number,
+        ),
+        (b"tick x 1 %", LineRule::Number),
+        (b"tick 2 x 1", LineRule::Name),
+        (b"tick 1 1 x", LineRule::Name),
+        (b"tick 1 0 -1", LineRule::Number),
         (b"client 1 0 put % %", LineRule::Key),
         (b"client 1 0 put %2a b", LineRule::Key),
         (b"client 1 0 put %41 b", LineRule::Key),
@@ -162,18 +177,89 @@ fn bad_fields(rt: HostRuntime) -> Result<(), Fail> {
         ),
         (b"client 1 0 put a x expect", LineRule::Option),
         (b"client 1 0 put a x expect=1 expect=x", LineRule::Option),
-        (b"client 1 0 put a x session=x expect=1", LineRule::Option),
-        (b"client 1 0 put a x seq=1", LineRule::Option),
-        (b"client 1 0 put a x index=n:k", LineRule::Option),
-        (b"client 1 0 delete a session=1", LineRule::Option),
-        (b"client 1 0 get equal a by=n", LineRule::Option),
-        (b"client 1 0 list * * by=n", LineRule::Option),
         (b"client 1 0 scan * * expect=1", LineRule::Option),
         (b"client 1 0 batch put a x frob + put % x", LineRule::Option),
     ];
     for (line, rule) in cases {
         assert_eq!(rt; fault_behind(rt.alloc(), line)?, Some((2, rule)));
     }
+    Ok(())
+}
+
+#[test]
+fn bad_options(rt: HostRuntime) -> Result<(), Fail> {
+    let cases: [(&[u8], LineRule); 41] = [
+        (b"client 1 0 put a x session=", LineRule::Number),
+        (b"client 1 0 put a x session=01", LineRule::Number),
+        (
+            b"client 1 0 put a x session=18446744073709551616",
+            LineRule::Number,
+        ),
+        (b"client 1 0 put a x session=x expect=1", LineRule::Number),
+        (b"client 1 0 put a x seq=", LineRule::Number),
+        (b"client 1 0 put a x seq=1,", LineRule::Number),
+        (b"client 1 0 put a x seq=,1", LineRule::Number),
+        (b"client 1 0 put a x seq=1,,2", LineRule::Number),
+        (b"client 1 0 put a x seq=1,02", LineRule::Number),
+        (
+            b"client 1 0 put a x seq=1,18446744073709551616 index=n:%",
+            LineRule::Number,
+        ),
+        (
+            b"client 1 0 batch put a x seq=1, + put % x",
+            LineRule::Number,
+        ),
+        (b"client 1 0 put a x session=1 expect=x", LineRule::Option),
+        (b"client 1 0 put a x seq=1 session=x", LineRule::Option),
+        (b"client 1 0 put a x index=n:k seq=x", LineRule::Option),
+        (b"client 1 0 put a x session=1 session=x", LineRule::Option),
+        (b"client 1 0 put a x seq=1 seq=x", LineRule::Option),
+        (b"client 1 0 put a x frob seq=x", LineRule::Option),
+        (b"client 1 0 put a x session seq=x", LineRule::Option),
+        (b"client 1 0 put a x by=n", LineRule::Option),
+        (b"client 1 0 put a x Session=1", LineRule::Option),
+        (b"client 1 0 put a x index=", LineRule::Option),
+        (b"client 1 0 put a x index=n", LineRule::Option),
+        (b"client 1 0 put a x index=:k", LineRule::Option),
+        (b"client 1 0 put a x index=%:k", LineRule::Option),
+        (b"client 1 0 put a x index=%41:k", LineRule::Option),
+        (b"client 1 0 put a x index=*:k", LineRule::Option),
+        (b"client 1 0 put a x index=n:", LineRule::Key),
+        (b"client 1 0 put a x index=n:%", LineRule::Key),
+        (b"client 1 0 put a x index=%:%", LineRule::Key),
+        (b"client 1 0 put a x index=n:*", LineRule::Key),
+        (b"client 1 0 put a x index=n:a:b", LineRule::Key),
+        (b"client 1 0 put a x index=n:__oxia/x", LineRule::Key),
+        (
+            b"client 1 0 put a x index=n:k index=:k index=n:%",
+            LineRule::Option,
+        ),
+        (b"client 1 0 delete a session=1", LineRule::Option),
+        (b"client 1 0 delete a by=n", LineRule::Option),
+        (b"client 1 0 get equal a by=", LineRule::Option),
+        (b"client 1 0 get equal a by=*", LineRule::Option),
+        (b"client 1 0 get equal a by=%41", LineRule::Option),
+        (b"client 1 0 list * * by=a:b", LineRule::Option),
+        (b"client 1 0 scan * * by", LineRule::Option),
+        (b"client 1 0 scan * * index=n:k", LineRule::Option),
+    ];
+    for (line, rule) in cases {
+        assert_eq!(rt; fault_behind(rt.alloc(), line)?, Some((2, rule)));
+    }
+    Ok(())
+}
+
+/// The fault of a get by an index whose name has this length.
+fn fault_by(alloc: Global, name: usize) -> Result<Option<(u64, LineRule)>, NoMemory> {
+    let mut text = Octets::from_slice(alloc, b"solo 1\nclient 1 0 get equal a by=")?;
+    text.extend(vec![in alloc; b'n'; name]?.as_slice())?;
+    fault_of(alloc, text.as_slice())
+}
+
+#[test]
+fn names_at_their_limit(rt: HostRuntime) -> Result<(), Fail> {
+    assert_eq!(rt; fault_by(rt.alloc(), 255)?, None);
+    assert_eq!(rt; fault_by(rt.alloc(), 256)?, Some((2, LineRule::Option)));
     Ok(())
 }
 

@@ -1,14 +1,16 @@
 // The line of an event, word by word, each word behind a space; and the spelling of keys and values.
-ghost use Rattle.std.specs.Prelude.{◌≡◌, ◌||◌, ◌++◌, ◌∷◌, [], OnOk, OnErr, map, decimal, codes};
-ghost use Rattle.ox_schedule.specs.Spelling.{spelt, value_word, expect_words, lo_word, hi_word, range_words, put_op, delete_op, range_op, joined, batch_ops, grouping_words, command_words, compare_word, query_words, request_words, event_line};
-ghost use Rattle.ox_schedule.specs.declared.schedule.Event.TheVariants.{Client};
-ghost use Rattle.ox_schedule.specs.Line.{spaced, has_some, plus_words, ops_behind};
+ghost use Rattle.std.specs.Prelude.{◌≡◌, ◌||◌, ◌++◌, ◌∷◌, [], OnOk, OnErr, MatchOption, map, decimal, codes};
+ghost use Rattle.std.specs.List.{flat_map};
+ghost use Rattle.ox_schedule.specs.Spelling.{spelt, value_word, expect_words, session_words, deltas_words, entry_word, by_words, put_options, lo_word, hi_word, range_words, put_op, delete_op, range_op, joined, batch_ops, grouping_words, command_words, compare_word, query_words, request_words, event_line};
+ghost use Rattle.ox_schedule.specs.declared.schedule.Event.TheVariants.{Client, Tick};
+ghost use Rattle.ox_schedule.specs.Line.{spaced, behind_comma, has_some, plus_words, ops_behind};
 
 use crate::escape::spelling;
 use crate::schedule::{Event, Grouping, Request};
 use itoa::Buffer;
 use ox_ops::{
-    Compare, Delete, Expect, Hi, KeyRange, Lo, Put, ShardCommand, ShardQuery, WriteBatch,
+    Compare, Delete, Expect, Hi, IndexEntry, KeyRange, Lo, Put, ShardCommand, ShardQuery,
+    WriteBatch,
 };
 use ox_types::{Key, NoMemory, Octets, Value};
 use std::alloc::Global;
@@ -66,6 +68,90 @@ fn add_expect(text: &mut Octets, expect: Expect) -> Result<(), NoMemory>
     }
 }
 
+fn add_session(text: &mut Octets, session: Option<u64>) -> Result<(), NoMemory>
+    ensures { OnOk result (text.new ≡ text.old ++ spaced (session_words session)) }
+{
+    match session {
+        None => Ok(()),
+        Some(id) => {
+            text.extend(b" session=")?;
+            text.extend(Buffer::new().format(id).as_bytes())
+        }
+    }
+}
+
+/// Adds the numbers, each behind a comma.
+fn add_further(text: &mut Octets, numbers: &[u64]) -> Result<(), NoMemory>
+    ensures { OnOk result (text.new ≡ text.old ++ flat_map behind_comma (map decimal numbers.now)) }
+{
+    for number in numbers {
+        text.extend(b",")?;
+        text.extend(Buffer::new().format(*number).as_bytes())?;
+    }
+    Ok(())
+}
+
+/// The first number, and those after it.
+fn first_number(numbers: &[u64]) -> Option<(u64, &[u64])>
+    ensures { MatchOption result (numbers.now ≡ []) (λ x. numbers.now ≡ x.0 ∷ x.1.now) }
+{
+    match numbers {
+        [] => None,
+        [number, rest @ ..] => Some((*number, rest)),
+    }
+}
+
+fn add_deltas(text: &mut Octets, deltas: &[u64]) -> Result<(), NoMemory>
+    ensures { OnOk result (text.new ≡ text.old ++ spaced (deltas_words deltas.now)) }
+{
+    let Some((first, rest)) = first_number(deltas) else {
+        return Ok(());
+    };
+    text.extend(b" seq=")?;
+    text.extend(Buffer::new().format(first).as_bytes())?;
+    add_further(text, rest)
+}
+
+fn add_entry(alloc: Global, text: &mut Octets, entry: &IndexEntry) -> Result<(), NoMemory>
+    ensures { OnOk result (text.new ≡ text.old ++ spaced (entry_word entry.now ∷ [])) }
+{
+    text.extend(b" index=")?;
+    add_bytes(alloc, text, entry.name.as_slice())?;
+    text.extend(b":")?;
+    add_key(alloc, text, &entry.key)
+}
+
+fn add_entries(alloc: Global, text: &mut Octets, entries: &[IndexEntry]) -> Result<(), NoMemory>
+    ensures { OnOk result (text.new ≡ text.old ++ spaced (map entry_word entries.now)) }
+{
+    for entry in entries {
+        add_entry(alloc, text, entry)?;
+    }
+    Ok(())
+}
+
+/// The options of a put, in their order.
+fn add_options(alloc: Global, text: &mut Octets, put: &Put) -> Result<(), NoMemory>
+    ensures { OnOk result (text.new ≡ text.old ++ spaced (put_options put.now)) }
+{
+    add_expect(text, put.expect)?;
+    add_session(text, put.session)?;
+    add_deltas(text, put.deltas.as_slice())?;
+    add_entries(alloc, text, put.indexes.as_slice())
+}
+
+fn add_by(alloc: Global, text: &mut Octets, by: &Option<Octets>) -> Result<(), NoMemory>
+    ensures { OnOk result (text.new ≡ text.old ++ spaced (by_words by.now)) }
+{
+    match by {
+        None => Ok(()),
+        Some(name) => {
+            text.extend(b" by=")?;
+            add_bytes(alloc, text, name.as_slice())
+        }
+    }
+}
+
 fn add_lo(alloc: Global, text: &mut Octets, lo: &Lo) -> Result<(), NoMemory>
     ensures { OnOk result (text.new ≡ text.old ++ spaced (lo_word lo.now ∷ [])) }
 {
@@ -110,7 +196,7 @@ fn add_put(alloc: Global, text: &mut Octets, put: &Put) -> Result<(), NoMemory>
     add_key(alloc, text, &put.key)?;
     text.extend(b" ")?;
     add_value(alloc, text, &put.value)?;
-    add_expect(text, put.expect)
+    add_options(alloc, text, put)
 }
 
 fn add_delete(alloc: Global, text: &mut Octets, delete: &Delete) -> Result<(), NoMemory>
@@ -273,14 +359,19 @@ fn add_query(alloc: Global, text: &mut Octets, query: &ShardQuery) -> Result<(),
     ensures { OnOk result (text.new ≡ text.old ++ spaced (query_words query.now)) }
 {
     match query {
-        ShardQuery::Get { compare, key, .. } => add_get(alloc, text, *compare, key),
-        ShardQuery::List { range, .. } => {
-            text.extend(b" list")?;
-            add_range(alloc, text, range)
+        ShardQuery::Get { compare, key, by } => {
+            add_get(alloc, text, *compare, key)?;
+            add_by(alloc, text, by)
         }
-        ShardQuery::Scan { range, .. } => {
+        ShardQuery::List { range, by } => {
+            text.extend(b" list")?;
+            add_range(alloc, text, range)?;
+            add_by(alloc, text, by)
+        }
+        ShardQuery::Scan { range, by } => {
             text.extend(b" scan")?;
-            add_range(alloc, text, range)
+            add_range(alloc, text, range)?;
+            add_by(alloc, text, by)
         }
         ShardQuery::Notices { after, skip } => {
             text.extend(b" notices")?;
@@ -318,18 +409,35 @@ fn add_client(
     add_request(alloc, text, request)
 }
 
+fn add_tick(text: &mut Octets, node: u64, shard: u64, ms: u64) -> Result<(), NoMemory>
+    ensures { OnOk result (text.new ≡ text.old ++ event_line (Tick node shard ms)) }
+{
+    text.extend(b"tick")?;
+    add_number(text, node)?;
+    add_number(text, shard)?;
+    add_number(text, ms)
+}
+
+fn add_line(alloc: Global, text: &mut Octets, event: &Event) -> Result<(), NoMemory>
+    ensures { OnOk result (text.new ≡ text.old ++ event_line event.now) }
+{
+    match event {
+        Event::Client {
+            node,
+            shard,
+            request,
+        } => add_client(alloc, text, *node, *shard, request),
+        Event::Tick { node, shard, ms } => add_tick(text, *node, *shard, *ms),
+    }
+}
+
 /// Adds the line of an event, without a line feed: of an event of a schedule, the very line that was read. It costs the
 /// line, which is made in memory of its own first. Where memory runs out, nothing is added.
 pub fn add_event(alloc: Global, text: &mut Octets, event: &Event) -> Result<(), NoMemory>
     ensures ok { OnOk result (text.new ≡ text.old ++ event_line event.now) }
     ensures err { OnErr result (text.new ≡ text.old) }
 {
-    let Event::Client {
-        node,
-        shard,
-        request,
-    } = event;
     let mut line = Octets::new(alloc);
-    add_client(alloc, &mut line, *node, *shard, request)?;
+    add_line(alloc, &mut line, event)?;
     text.extend(line.as_slice())
 }

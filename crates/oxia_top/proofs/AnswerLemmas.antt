@@ -13,7 +13,7 @@ use Rattle.ox_schedule.specs.declared.schedule.Grouping.{Grouping}
 use Rattle.ox_schedule.specs.declared.schedule.Request.{Request}
 use Rattle.ox_schedule.specs.declared.schedule.Request.TheVariants.{Write, Read}
 use Rattle.ox_schedule.specs.declared.schedule.Event.{Event}
-use Rattle.ox_schedule.specs.declared.schedule.Event.TheVariants.{Client}
+use Rattle.ox_schedule.specs.declared.schedule.Event.TheVariants.{Client, Tick}
 use Rattle.oxia_top.specs.declared.leader.Entry.{Entry}
 use Rattle.oxia_top.specs.declared.leader.Outcome.{Outcome}
 use Rattle.oxia_top.specs.declared.leader.Outcome.TheVariants as outcome
@@ -23,17 +23,29 @@ use Rattle.oxia_top.specs.declared.world.Origin.{Origin}
 use Rattle.oxia_top.specs.declared.world.Effect.{Effect}
 use Rattle.oxia_top.specs.declared.world.Effect.TheVariants.{Answered}
 use Rattle.oxia_top.specs.Meaning.{Meaning, id_of, state_after, reply_at, answer_after}
-use Rattle.oxia_top.specs.Leader.{Replica, entry_of, pass_entry, unless_at_fault}
-use Rattle.oxia_top.specs.World.{World, comes, happens, opening_world, origin_of}
+use Rattle.oxia_top.specs.Leader.{Replica, entry_of, pass_entry, unless_at_fault, at_time, runs_out}
+use Rattle.oxia_top.specs.World.{World, comes, expires, happens, opening_world, origin_of}
 use Rattle.oxia_top.specs.Moments.{Begins, world_at, history_at, replica_at, CameBefore, Acks, Reads, IsFrom}
+use Rattle.oxia_top.specs.Notices.{Noticing, NoticesAreComplete}
 use Rattle.oxia_top.specs.Legal.{StandsInHistory, RepliesMatch, IsCaused, ReadsMatch, IsRefused, RefusalsAreTrue, Agrees, IsLegal}
 use Rattle.oxia_top.proofs.OriginLemmas.{get_last, get_within, get_some, get_more}
-use Rattle.oxia_top.proofs.LegalLemmas.{AtShardZero, new_entry, new_origin, written, counted, write_is, refused_is, read_is, at_next, at_end, at_first, sound_at, begins_later, longer_later, arrivals_later, arrivals_next}
+use Rattle.oxia_top.proofs.LegalLemmas.{AtShardZero, new_entry, new_origin, appended, written, counted, heard_by, waited, write_is, refused_is, read_is, waited_is, expired_is, at_next, at_end, at_first, sound_at, begins_later, longer_later, arrivals_later, arrivals_next}
+use Rattle.oxia_top.proofs.TimerLemmas.{expiry_is}
 
 answer_is : (a b : ℕ) (x y : Outcome) → Answered a x ≡ Answered b y → (a ≡ b) × (x ≡ y)
 answer_is a b x y e = (cc, cc)
 
 module _ {S : Type 0} (M : Meaning S) where
+  -- a tick answers nobody
+  tick_tells_none : (w : World S) (n s ms j a : ℕ) (x : Outcome) → slice_get (happens M w (Tick n s ms)).effects j ≡ Some (Answered a x) → ⊥
+  unfolding happens
+  tick_tells_none w n s ms j a x h = by_due (runs_out (at_time w.replica ms)) j h
+    where
+      by_due : (o : Option ℕ) (j : ℕ) → slice_get (expires M w s (at_time w.replica ms) o).effects j ≡ Some (Answered a x) → ⊥
+      by_due None j g = absurd cc
+      by_due (Some id) zero g = absurd cc
+      by_due (Some id) (suc j) g = absurd cc
+
   -- an acknowledgement is the third effect of a write without a fault
   pub record AckIs (w : World S) (r : Request) (j a t o : ℕ) (reply : ShardReply) : Type 0 where
     pub grouping : Grouping
@@ -140,7 +152,7 @@ module _ {S : Type 0} (M : Meaning S) where
   module _ (es : List Event) (only : AtShardZero M es) where
     -- where a request comes, it comes to shard 0
     shard_is : (k a s : ℕ) (r : Request) → CameBefore M es k a s r → s ≡ 0
-    shard_is k a s r c = only c.event c.comes.node s r c.comes.here
+    shard_is k a s r c = only c.event (Client c.comes.node s r) c.comes.here
 
     -- the event of an acknowledgement
     pub record AckAt (k j a s t o : ℕ) (reply : ShardReply) : Type 0 where
@@ -160,9 +172,10 @@ module _ {S : Type 0} (M : Meaning S) where
     ack_at k j a s t o reply h = by_event h.shown.event h.shown.here h.shown.seen
       where
         by_event : (e : Event) → slice_get es k ≡ Some e → slice_get (happens M (world_at M es k) e).effects j ≡ Some (Answered a (outcome.Ack t o reply)) → AckAt k j a s t o reply
+        by_event (Tick n z ms) here seen = absurd (tick_tells_none (world_at M es k) n z ms j a (outcome.Ack t o reply) seen)
         by_event (Client n z r) here seen =
             let x = ack_is (world_at M es k) n z r j a t o reply seen in
-            let zero_shard : z ≡ 0 = only k n z r here in
+            let zero_shard : z ≡ 0 = only k (Client n z r) here in
             let there : slice_get es k ≡ Some (Client n 0 (Write x.grouping x.command)) = here ∙ ap (λ (q : Request). Some (Client n z q)) x.is ∙ ap (λ y. Some (Client n y (Write x.grouping x.command))) zero_shard in
             record {
               node = n;
@@ -192,9 +205,10 @@ module _ {S : Type 0} (M : Meaning S) where
     read_at k j a s t p answer h = by_event h.shown.event h.shown.here h.shown.seen
       where
         by_event : (e : Event) → slice_get es k ≡ Some e → slice_get (happens M (world_at M es k) e).effects j ≡ Some (Answered a (outcome.Read t p answer)) → ReadAt k j a s t p answer
+        by_event (Tick n z ms) here seen = absurd (tick_tells_none (world_at M es k) n z ms j a (outcome.Read t p answer) seen)
         by_event (Client n z r) here seen =
             let x = read_of (world_at M es k) n z r j a t p answer seen in
-            let zero_shard : z ≡ 0 = only k n z r here in
+            let zero_shard : z ≡ 0 = only k (Client n z r) here in
             let there : slice_get es k ≡ Some (Client n 0 (Read x.query)) = here ∙ ap (λ (q : Request). Some (Client n z q)) x.is ∙ ap (λ y. Some (Client n y (Read x.query))) zero_shard in
             record { node = n; query = x.query; here = there; shard = shard_is (k + 1) a s h.request h.came; arrival = x.arrival; term = x.term; prefix = x.prefix; answer_is = x.answer_is }
 
@@ -205,7 +219,7 @@ module _ {S : Type 0} (M : Meaning S) where
     behind_refusal : (k n : ℕ) (g : Grouping) (c : ShardCommand) (bad : Bad) → slice_get es k ≡ Some (Client n 0 (Write g c)) → M.fault c ≡ Some bad → world_at M es (suc k) ≡ counted M (world_at M es k)
     behind_refusal k n g c bad h e = at_next M es k _ h ∙ refused_is M (world_at M es k) n 0 g c bad e (sound_at M es only k)
 
-    behind_read : (k n : ℕ) (q : ShardQuery) → slice_get es k ≡ Some (Client n 0 (Read q)) → world_at M es (suc k) ≡ counted M (world_at M es k)
+    behind_read : (k n : ℕ) (q : ShardQuery) → slice_get es k ≡ Some (Client n 0 (Read q)) → world_at M es (suc k) ≡ heard_by M (world_at M es k) q
     behind_read k n q h = at_next M es k _ h ∙ read_is M (world_at M es k) n 0 q (sound_at M es only k)
 
     -- ---- acknowledged in place
@@ -218,7 +232,7 @@ module _ {S : Type 0} (M : Meaning S) where
           entry = new_entry M w c;
           stands = rw next (get_last w.replica.log (new_entry M w c));
           term_is = refl;
-          from = rw next (length w.origins, get_last w.origins (new_origin M w c));
+          from = rw next (length w.origins, get_last w.origins (new_origin M w (cause.Arrival (w.arrivals + 1)) c));
           grouping = g;
           command = c;
           came = record { event = k; before = omega arith; comes = record { node = n; here = h; number = refl } };
@@ -244,7 +258,7 @@ module _ {S : Type 0} (M : Meaning S) where
         let x = ack_at k j a s t o reply h in
         let x' = ack_at k' j' a' s' t' o' reply' h' in
         let sound' = sound_at M es only k' in (
-          omega (arith, x.arrival, x'.arrival, arrivals_next M es k _ x.here, arrivals_later M es (suc k) k' (omega arith)),
+          omega (arith, x.arrival, x'.arrival, arrivals_next M es k x.node 0 (Write x.grouping x.command) x.here, arrivals_later M es (suc k) k' (omega arith)),
           omega (arith, log_behind k j a s t o reply h, x'.offset, ap length sound'.history, longer_later M es (suc k) k' (omega arith)),
         )
 
@@ -276,38 +290,68 @@ module _ {S : Type 0} (M : Meaning S) where
     earlier : (k : ℕ) (s : ℕ) (e : Entry) (x : Cause) → IsCaused M es k s e x → IsCaused M es (suc k) s e x
     earlier k s e cause.Opening h = h
     earlier k s e (cause.Arrival a) h = (h.0, h.1, record { event = h.2.event; before = omega (arith, h.2.before); comes = h.2.comes }, h.3, h.4)
+    earlier k s e (cause.Expiry id) h = record {
+      command = h.command;
+      kept = h.kept;
+      before = omega (arith, h.before);
+      new = h.new;
+      node = h.node;
+      leader = h.leader;
+      leads = h.leads;
+      term_is = h.term_is;
+      leader_after = h.leader_after;
+      leads_after = h.leads_after;
+      time = h.time;
+      timer = h.timer;
+      runs = h.runs;
+      id_is = h.id_is;
+      ran_out = h.ran_out;
+    }
 
     abbrev AllCaused : ℕ → World S → Type 0
     AllCaused k w = (i : ℕ) (e : Entry) (x : Origin) → slice_get w.replica.log i ≡ Some e → slice_get w.origins i ≡ Some x → IsCaused M es k 0 e x.cause
 
-    caused_write : (k n : ℕ) (g : Grouping) (c : ShardCommand) → slice_get es k ≡ Some (Client n 0 (Write g c)) → M.fault c ≡ None → AllCaused k (world_at M es k) → AllCaused (suc k) (written M (world_at M es k) c)
-    caused_write k n grouping c h faultless known i e x g f =
-        let w : World S = world_at M es k in
-        let long = (sound_at M es only k).steps.long in
-        elim (get_more w.replica.log (new_entry M w c) e i g) [
-          | inl m ↦ elim (get_more w.origins (new_origin M w c) x i f) [
-            | inl l ↦ earlier k 0 e x.cause (known i e x m l)
-            | inr q ↦ absurd (omega (arith, q.0, long, get_within w.replica.log e i m))
-          ]
-          | inr p ↦ elim (get_more w.origins (new_origin M w c) x i f) [
-            | inl l ↦ absurd (omega (arith, p.0, long, get_within w.origins x i l))
-            | inr q ↦ rw (← p.1, ← q.1) (grouping, c, record { event = k; before = omega arith; comes = record { node = n; here = h; number = refl } }, faultless, refl)
-          ]
-        ]
+    -- an entry more, which has its cause
+    caused_more : (k arrivals : ℕ) (w : World S) (y : Cause) (c : ShardCommand) → length w.origins ≡ length w.replica.log → AllCaused k w → IsCaused M es (suc k) 0 (new_entry M w c) y → AllCaused (suc k) (appended M w arrivals y c)
+    caused_more k arrivals w y c long known new i e x g f = elim (get_more w.replica.log (new_entry M w c) e i g) [
+      | inl m ↦ elim (get_more w.origins (new_origin M w y c) x i f) [
+        | inl l ↦ earlier k 0 e x.cause (known i e x m l)
+        | inr q ↦ absurd (omega (arith, q.0, long, get_within w.replica.log e i m))
+      ]
+      | inr p ↦ elim (get_more w.origins (new_origin M w y c) x i f) [
+        | inl l ↦ absurd (omega (arith, p.0, long, get_within w.origins x i l))
+        | inr q ↦ rw (← p.1, ← q.1) new
+      ]
+    ]
 
     caused_next : (k : ℕ) → AllCaused k (world_at M es k) → (o : Option Event) → slice_get es k ≡ o → AllCaused (suc k) (world_at M es (suc k))
     caused_next k known None h = subst (AllCaused (suc k)) (sym (at_end M es k h)) (λ i e x g f. earlier k 0 e x.cause (known i e x g f))
     caused_next k known (Some (Client n s (Write g c))) h = by_fault (M.fault c) refl
       where
         here : slice_get es k ≡ Some (Client n 0 (Write g c))
-        here = h ∙ ap (λ y. Some (Client n y (Write g c))) (only k n s (Write g c) h)
+        here = h ∙ ap (λ y. Some (Client n y (Write g c))) (only k (Client n s (Write g c)) h)
 
         by_fault : (f : Option Bad) → M.fault c ≡ f → AllCaused (suc k) (world_at M es (suc k))
-        by_fault None faultless = subst (AllCaused (suc k)) (sym (behind_write k n g c here faultless)) (caused_write k n g c here faultless known)
+        by_fault None faultless =
+            subst (AllCaused (suc k)) (sym (behind_write k n g c here faultless))
+            (caused_more k ((world_at M es k).arrivals + 1) (world_at M es k) (cause.Arrival ((world_at M es k).arrivals + 1)) c (sound_at M es only k).steps.long known
+            (g, c, record { event = k; before = omega arith; comes = record { node = n; here = here; number = refl } }, faultless, refl))
         by_fault (Some bad) fault = subst (AllCaused (suc k)) (sym (behind_refusal k n g c bad here fault)) (λ i e x g f. earlier k 0 e x.cause (known i e x g f))
     caused_next k known (Some (Client n s (Read q))) h =
-        let here : slice_get es k ≡ Some (Client n 0 (Read q)) = h ∙ ap (λ y. Some (Client n y (Read q))) (only k n s (Read q) h) in
+        let here : slice_get es k ≡ Some (Client n 0 (Read q)) = h ∙ ap (λ y. Some (Client n y (Read q))) (only k (Client n s (Read q)) h) in
         subst (AllCaused (suc k)) (sym (behind_read k n q here)) (λ i e x g f. earlier k 0 e x.cause (known i e x g f))
+    caused_next k known (Some (Tick n s ms)) h = by_due (runs_out (at_time (world_at M es k).replica ms)) refl
+      where
+        here : slice_get es k ≡ Some (Tick n 0 ms)
+        here = h ∙ ap (λ y. Some (Tick n y ms)) (only k (Tick n s ms) h)
+
+        by_due : (o : Option ℕ) → runs_out (at_time (world_at M es k).replica ms) ≡ o → AllCaused (suc k) (world_at M es (suc k))
+        by_due None e =
+            subst (AllCaused (suc k)) (sym (at_next M es k _ here ∙ waited_is M (world_at M es k) n ms e)) (λ i e x g f. earlier k 0 e x.cause (known i e x g f))
+        by_due (Some id) e =
+            subst (AllCaused (suc k)) (sym (at_next M es k _ here ∙ expired_is M (world_at M es k) n ms id e (sound_at M es only k)))
+            (caused_more k (world_at M es k).arrivals (waited M (world_at M es k) ms) (cause.Expiry id) (M.expiry id) (sound_at M es only k).steps.long known
+            (expiry_is M es only k n ms id here e))
 
     caused_first : AllCaused 0 (world_at M es 0)
     caused_first = subst (AllCaused 0) (sym (at_first M es)) first
@@ -355,6 +399,13 @@ module _ {S : Type 0} (M : Meaning S) where
         sym (from_place k o a e g x) ∙ same ∙ from_place k p a f h y
     arrivals_once k (suc s) o p a e f g h x y = absurd cc
 
+    in_place : (k s o : ℕ) (e : Entry) → slice_get (history_at M es k s) o ≡ Some e → e.offset ≡ o
+    in_place k zero o e h =
+        let sound = sound_at M es only k in
+        let log : slice_get (world_at M es k).replica.log o ≡ Some e = rw sound.history at h in
+        (sound.steps.entry o e log).1
+    in_place k (suc s) o e h = absurd cc
+
     -- ---- reads
 
     -- every answer is of term 1
@@ -374,7 +425,7 @@ module _ {S : Type 0} (M : Meaning S) where
     read_answer k n q h =
         let w : World S = world_at M es k in
         let sound = sound_at M es only k in
-        let next : world_at M es (k + 1) ≡ counted M w = rw add-one (behind_read k n q h) in
+        let next : world_at M es (k + 1) ≡ heard_by M w q = rw add-one (behind_read k n q h) in
         let whole : take w.replica.commit w.history ≡ w.replica.log = rw (sound.commit, sound.history) (take-length w.replica.log) in
         ap (λ v. M.answer v q) (sound.value ∙ ap (state_after M) (sym whole)) ∙ ap (λ (u : World S). M.answer (state_after M (take w.replica.commit u.history)) q) (sym next)
 
@@ -391,7 +442,7 @@ module _ {S : Type 0} (M : Meaning S) where
     answer_so : (k n s p : ℕ) (q : ShardQuery) (answer : ShardAnswer) → slice_get es k ≡ Some (Client n 0 (Read q)) → s ≡ 0 → p ≡ (world_at M es k).replica.commit → answer ≡ M.answer (world_at M es k).replica.value q → answer ≡ answer_after M (history_at M es (k + 1) s) p q
     answer_so k n s p q answer h shard prefix is = rw (shard, prefix, is) (read_answer k n q h)
 
-    reads_match : ReadsMatch M es
+    pub reads_match : ReadsMatch M es
     reads_match k j a s t p answer h =
         let x = read_at k j a s t p answer h in
         let prefix = prefix_is k j a s t p answer h in
@@ -419,9 +470,10 @@ module _ {S : Type 0} (M : Meaning S) where
     refusals_are_true k j a s refusal h = by_event h.shown.event h.shown.here h.shown.seen
       where
         by_event : (e : Event) → slice_get es k ≡ Some e → slice_get (happens M (world_at M es k) e).effects j ≡ Some (Answered a (outcome.Refused refusal)) → IsRefused M es k a s refusal
+        by_event (Tick n z ms) here seen = absurd (tick_tells_none (world_at M es k) n z ms j a (outcome.Refused refusal) seen)
         by_event (Client n z r) here seen =
             let x = refusal_is (world_at M es k) n z r j a refusal seen in
-            let zero_shard : z ≡ 0 = only k n z r here in
+            let zero_shard : z ≡ 0 = only k (Client n z r) here in
             let there : slice_get es k ≡ Some (Client n 0 (Write x.grouping x.command)) = here ∙ ap (λ (q : Request). Some (Client n z q)) x.is ∙ ap (λ y. Some (Client n y (Write x.grouping x.command))) zero_shard in
             record {
               grouping = x.grouping;
@@ -453,12 +505,13 @@ module _ {S : Type 0} (M : Meaning S) where
     begins j k zero h = begins_later M es j k h
     begins j k (suc s) h = ([], refl)
 
-    pub is_legal : IsLegal M es
-    is_legal = record {
+    pub is_legal : (N : Noticing S) → NoticesAreComplete M N es → IsLegal M es N
+    is_legal N notices = record {
       acknowledged = record { stands = stands; once = once };
       replies = replies;
-      causes = record { caused = caused; once = arrivals_once };
+      causes = record { caused = caused; once = arrivals_once; in_place = in_place };
       reads = reads_match;
       refusals = refusals_are_true;
       replicas = record { agree = agree; grows = begins };
+      notices = notices;
     }

@@ -9,14 +9,15 @@ use Rattle.ox_schedule.specs.declared.schedule.Grouping.{Grouping}
 use Rattle.ox_schedule.specs.declared.schedule.Request.{Request}
 use Rattle.ox_schedule.specs.declared.schedule.Request.TheVariants as request
 use Rattle.ox_schedule.specs.declared.schedule.Event.{Event}
-use Rattle.ox_schedule.specs.declared.schedule.Event.TheVariants.{Client}
+use Rattle.ox_schedule.specs.declared.schedule.Event.TheVariants.{Client, Tick}
 use Rattle.oxia_top.specs.declared.leader.Entry.{Entry}
-use Rattle.oxia_top.specs.declared.leader.Outcome.{Outcome}
+use Rattle.ox_timer.specs.declared.running.Running.{Running}
+use Rattle.oxia_top.specs.declared.world.Cause.{Cause}
 use Rattle.oxia_top.specs.declared.world.Cause.TheVariants as cause
 use Rattle.oxia_top.specs.declared.world.Origin.{Origin}
 use Rattle.oxia_top.specs.Meaning.{Meaning, after, state_from, state_after}
-use Rattle.oxia_top.specs.Leader.{Replica, pass_entry, entry_of, with_entry, writes, tells}
-use Rattle.oxia_top.specs.World.{World, grown, origin_of, comes, happens, opening_world, world_after}
+use Rattle.oxia_top.specs.Leader.{pass_entry, entry_of, with_entry, hears, at_time, runs_out}
+use Rattle.oxia_top.specs.World.{World, grown, origin_of, expires, happens, opening_world, world_after}
 use Rattle.oxia_top.specs.Origins.{AreInStep}
 use Rattle.oxia_top.specs.Moments.{Begins, world_at}
 use Rattle.oxia_top.proofs.OriginLemmas.{get_more}
@@ -41,22 +42,15 @@ grown_one log e = ap (λ t. log ++ drop (length log) t) (take_all log e) ∙ ap 
 pub grown_none : (log : List Entry) → grown log log (length log) ≡ log
 grown_none log = ap (λ t. log ++ drop (length log) t) (take-length log) ∙ ap (λ t. log ++ t) (drop_all log) ∙ append-nil log
 
-split : (j k : ℕ) → j ≤ suc k → (j ≤ k) ⊎ (j ≡ suc k)
+pub split : (j k : ℕ) → j ≤ suc k → (j ≤ k) ⊎ (j ≡ suc k)
 split j k h = grind (arith, common_steps)
 
+-- the shard to which an event comes
+abbrev pub shard_named : Event → ℕ
+shard_named (Client n s r) = s
+shard_named (Tick n s ms) = s
+
 module _ {S : Type 0} (M : Meaning S) where
-  -- ---- what a request makes of a world whose history is the whole log
-
-  pub comes_write : (r : Replica S) (before a s : ℕ) (os : List Origin) (c : ShardCommand) → record { replica = with_entry M r (entry_of M r c); arrivals = a; origins = os ++ origin_of s (cause.Arrival a) (entry_of M r c) ∷ []; history = r.log ++ entry_of M r c ∷ [] } ≡ (comes (record { replica = r; arrivals = before; origins = os; history = r.log }) s a (writes M r c)).world
-  comes_write r before a s os c = rw (grown_one r.log (entry_of M r c)) refl
-
-  pub comes_written : (w : World S) (r r' : Replica S) (before a s : ℕ) (os os' : List Origin) (c : ShardCommand) → w ≡ record { replica = r; arrivals = before; origins = os; history = r.log } → r' ≡ (writes M r c).state → os' ≡ os ++ origin_of s (cause.Arrival a) (entry_of M r c) ∷ [] → record { replica = r'; arrivals = a; origins = os'; history = r'.log } ≡ (comes w s a (writes M w.replica c)).world
-  comes_written w r r' before a s os os' c is state origins = rw (is, state, origins) (comes_write r before a s os c)
-
-  -- a told outcome changes nothing but the count of arrivals
-  pub comes_told : (r : Replica S) (before a s : ℕ) (os : List Origin) (x : Outcome) → r.commit ≡ length r.log → record { replica = r; arrivals = a; origins = os; history = r.log } ≡ (comes (record { replica = r; arrivals = before; origins = os; history = r.log }) s a (tells r x)).world
-  comes_told r before a s os x whole = rw (whole, grown_none r.log, append-nil os) refl
-
   -- ---- the one-thread store
 
   state_from-append : (s : S) (xs ys : List Entry) → state_from M s (xs ++ ys) ≡ state_from M (state_from M s xs) ys
@@ -82,27 +76,47 @@ module _ {S : Type 0} (M : Meaning S) where
     pub bound : (i a : ℕ) (x : Origin) → slice_get w.origins i ≡ Some x → x.cause ≡ cause.Arrival a → a ≤ w.arrivals
     pub once : (i j a : ℕ) (x y : Origin) → slice_get w.origins i ≡ Some x → slice_get w.origins j ≡ Some y → x.cause ≡ cause.Arrival a → y.cause ≡ cause.Arrival a → i ≡ j
 
+  -- the world with other arrivals, another time and other timers
+  abbrev pub moved : World S → ℕ → ℕ → List Running → World S
+  moved w arrivals clock timers = record { replica = record w.replica { clock = clock; timers = timers }; arrivals = arrivals; origins = w.origins; history = w.history }
+
+  -- the world behind a refusal, and behind a read
   abbrev pub counted : World S → World S
-  counted w = record { replica = w.replica; arrivals = w.arrivals + 1; origins = w.origins; history = w.history }
+  counted w = moved w (w.arrivals + 1) w.replica.clock w.replica.timers
+
+  abbrev pub heard_by : World S → ShardQuery → World S
+  heard_by w q = moved w (w.arrivals + 1) w.replica.clock (hears (M.heard q) w.replica.clock w.replica.timers)
+
+  -- the world after a tick in which no timer runs out
+  abbrev pub waited : World S → ℕ → World S
+  waited w ms = moved w w.arrivals (at_time w.replica ms).clock w.replica.timers
 
   abbrev pub new_entry : World S → ShardCommand → Entry
   new_entry w c = entry_of M w.replica c
 
-  abbrev pub new_origin : World S → ShardCommand → Origin
-  new_origin w c = origin_of 0 (cause.Arrival (w.arrivals + 1)) (new_entry w c)
+  abbrev pub new_origin : World S → Cause → ShardCommand → Origin
+  new_origin w x c = origin_of 0 x (new_entry w c)
 
-  abbrev pub written : World S → ShardCommand → World S
-  written w c = record {
+  -- the world with one entry more, which comes so
+  abbrev pub appended : World S → ℕ → Cause → ShardCommand → World S
+  appended w arrivals x c = record {
     replica = with_entry M w.replica (new_entry w c);
-    arrivals = w.arrivals + 1;
-    origins = w.origins ++ new_origin w c ∷ [];
+    arrivals = arrivals;
+    origins = w.origins ++ new_origin w x c ∷ [];
     history = w.replica.log ++ new_entry w c ∷ [];
   }
+
+  -- the world behind a write, and behind a tick in which a timer runs out
+  abbrev pub written : World S → ShardCommand → World S
+  written w c = appended w (w.arrivals + 1) (cause.Arrival (w.arrivals + 1)) c
+
+  abbrev pub expired : World S → ℕ → ℕ → World S
+  expired w ms id = appended (waited w ms) w.arrivals (cause.Expiry id) (M.expiry id)
 
   same_history : (w : World S) → IsSound w → grown w.history w.replica.log w.replica.commit ≡ w.history
   same_history w h = rw (h.history, h.commit) (grown_none w.replica.log)
 
-  pub read_is : (w : World S) (n s : ℕ) (q : ShardQuery) → IsSound w → (happens M w (Client n s (request.Read q))).world ≡ counted w
+  pub read_is : (w : World S) (n s : ℕ) (q : ShardQuery) → IsSound w → (happens M w (Client n s (request.Read q))).world ≡ heard_by w q
   unfolding happens
   read_is w n s q h = rw (same_history w h, append-nil w.origins) refl
 
@@ -139,8 +153,19 @@ module _ {S : Type 0} (M : Meaning S) where
       no_arrival zero a x g e = let is : cause.Opening ≡ x.cause = cc in let never : cause.Opening ≡ cause.Arrival a = is ∙ e in cc
       no_arrival (suc i) a x g e = absurd cc
 
-  counted_sound : (w : World S) → IsSound w → IsSound (counted w)
-  counted_sound w h = record {
+  pub waited_is : (w : World S) (n ms : ℕ) → runs_out (at_time w.replica ms) ≡ None → (happens M w (Tick n 0 ms)).world ≡ waited w ms
+  unfolding happens
+  waited_is w n ms none = rw none refl
+
+  pub expired_is : (w : World S) (n ms id : ℕ) → runs_out (at_time w.replica ms) ≡ Some id → IsSound w → (happens M w (Tick n 0 ms)).world ≡ expired w ms id
+  unfolding happens
+  expired_is w n ms id some h =
+      let e : Entry = new_entry (waited w ms) (M.expiry id) in
+      let same : grown w.history (w.replica.log ++ e ∷ []) (length w.replica.log + 1) ≡ w.replica.log ++ e ∷ [] = rw h.history (grown_one w.replica.log e) in
+      rw (some, same) refl
+
+  moved_sound : (w : World S) (arrivals clock : ℕ) (timers : List Running) → w.arrivals ≤ arrivals → IsSound w → IsSound (moved w arrivals clock timers)
+  moved_sound w arrivals clock timers more h = record {
     history = h.history;
     commit = h.commit;
     value = h.value;
@@ -150,11 +175,8 @@ module _ {S : Type 0} (M : Meaning S) where
     once = h.once;
   }
 
-  arrival_is : (a b : ℕ) → cause.Arrival a ≡ cause.Arrival b → a ≡ b
-  arrival_is a b e = cc
-
-  written_sound : (w : World S) (c : ShardCommand) → IsSound w → IsSound (written w c)
-  written_sound w c h = record {
+  appended_sound : (w : World S) (arrivals : ℕ) (y : Cause) (c : ShardCommand) → w.arrivals ≤ arrivals → ((a : ℕ) → y ≡ cause.Arrival a → (w.arrivals + 1 ≤ a) × (a ≤ arrivals)) → IsSound w → IsSound (appended w arrivals y c)
+  appended_sound w arrivals y c more new h = record {
     history = refl;
     commit = sym (length-append w.replica.log (new_entry w c ∷ []));
     value = ap (λ v. after M v (new_entry w c)) h.value ∙ sym (state_more w.replica.log (new_entry w c));
@@ -164,8 +186,8 @@ module _ {S : Type 0} (M : Meaning S) where
     once = once;
   }
     where
-      long : length (w.origins ++ new_origin w c ∷ []) ≡ length (w.replica.log ++ new_entry w c ∷ [])
-      long = omega (arith, length-append w.origins (new_origin w c ∷ []), length-append w.replica.log (new_entry w c ∷ []), h.steps.long)
+      long : length (w.origins ++ new_origin w y c ∷ []) ≡ length (w.replica.log ++ new_entry w c ∷ [])
+      long = omega (arith, length-append w.origins (new_origin w y c ∷ []), length-append w.replica.log (new_entry w c ∷ []), h.steps.long)
 
       entries : (i : ℕ) (e : Entry) → slice_get (w.replica.log ++ new_entry w c ∷ []) i ≡ Some e → (e.term ≡ 1) × (e.offset ≡ i)
       entries i e g = elim (get_more w.replica.log (new_entry w c) e i g) [
@@ -173,40 +195,93 @@ module _ {S : Type 0} (M : Meaning S) where
         | inr p ↦ (sym (ap (λ (x : Entry). x.term) p.1) ∙ h.term, sym (ap (λ (x : Entry). x.offset) p.1) ∙ sym p.0)
       ]
 
-      origins : (i : ℕ) (x : Origin) → slice_get (w.origins ++ new_origin w c ∷ []) i ≡ Some x → (x.shard ≡ 0) × (x.term ≡ 1) × (x.offset ≡ i)
-      origins i x g = elim (get_more w.origins (new_origin w c) x i g) [
+      origins : (i : ℕ) (x : Origin) → slice_get (w.origins ++ new_origin w y c ∷ []) i ≡ Some x → (x.shard ≡ 0) × (x.term ≡ 1) × (x.offset ≡ i)
+      origins i x g = elim (get_more w.origins (new_origin w y c) x i g) [
         | inl k ↦ h.steps.origin i x k
-        | inr p ↦ (sym (ap (λ (y : Origin). y.shard) p.1), sym (ap (λ (y : Origin). y.term) p.1) ∙ h.term, sym (ap (λ (y : Origin). y.offset) p.1) ∙ sym h.steps.long ∙ sym p.0)
+        | inr p ↦ (sym (ap (λ (z : Origin). z.shard) p.1), sym (ap (λ (z : Origin). z.term) p.1) ∙ h.term, sym (ap (λ (z : Origin). z.offset) p.1) ∙ sym h.steps.long ∙ sym p.0)
       ]
 
-      new_arrival : (x : Origin) (a : ℕ) → new_origin w c ≡ x → x.cause ≡ cause.Arrival a → a ≡ w.arrivals + 1
-      new_arrival x a p e = sym (arrival_is (w.arrivals + 1) a (ap (λ (y : Origin). y.cause) p ∙ e))
+      new_arrival : (x : Origin) (a : ℕ) → new_origin w y c ≡ x → x.cause ≡ cause.Arrival a → (w.arrivals + 1 ≤ a) × (a ≤ arrivals)
+      new_arrival x a p e = new a (ap (λ (z : Origin). z.cause) p ∙ e)
 
-      bound : (i a : ℕ) (x : Origin) → slice_get (w.origins ++ new_origin w c ∷ []) i ≡ Some x → x.cause ≡ cause.Arrival a → a ≤ w.arrivals + 1
-      bound i a x g e = elim (get_more w.origins (new_origin w c) x i g) [
+      bound : (i a : ℕ) (x : Origin) → slice_get (w.origins ++ new_origin w y c ∷ []) i ≡ Some x → x.cause ≡ cause.Arrival a → a ≤ arrivals
+      bound i a x g e = elim (get_more w.origins (new_origin w y c) x i g) [
         | inl k ↦ omega (arith, h.bound i a x k e)
-        | inr p ↦ omega (arith, new_arrival x a p.1 e)
+        | inr p ↦ (new_arrival x a p.1 e).1
       ]
 
-      once : (i j a : ℕ) (x y : Origin) → slice_get (w.origins ++ new_origin w c ∷ []) i ≡ Some x → slice_get (w.origins ++ new_origin w c ∷ []) j ≡ Some y → x.cause ≡ cause.Arrival a → y.cause ≡ cause.Arrival a → i ≡ j
-      once i j a x y g k e f = elim (get_more w.origins (new_origin w c) x i g) [
-        | inl m ↦ elim (get_more w.origins (new_origin w c) y j k) [
-          | inl n ↦ h.once i j a x y m n e f
-          | inr q ↦ absurd (omega (arith, h.bound i a x m e, new_arrival y a q.1 f))
+      once : (i j a : ℕ) (x z : Origin) → slice_get (w.origins ++ new_origin w y c ∷ []) i ≡ Some x → slice_get (w.origins ++ new_origin w y c ∷ []) j ≡ Some z → x.cause ≡ cause.Arrival a → z.cause ≡ cause.Arrival a → i ≡ j
+      once i j a x z g k e f = elim (get_more w.origins (new_origin w y c) x i g) [
+        | inl m ↦ elim (get_more w.origins (new_origin w y c) z j k) [
+          | inl n ↦ h.once i j a x z m n e f
+          | inr q ↦ absurd (omega (arith, h.bound i a x m e, (new_arrival z a q.1 f).0))
         ]
-        | inr p ↦ elim (get_more w.origins (new_origin w c) y j k) [
-          | inl n ↦ absurd (omega (arith, h.bound j a y n f, new_arrival x a p.1 e))
+        | inr p ↦ elim (get_more w.origins (new_origin w y c) z j k) [
+          | inl n ↦ absurd (omega (arith, h.bound j a z n f, (new_arrival x a p.1 e).0))
           | inr q ↦ p.0 ∙ sym q.0
         ]
       ]
 
-  pub next_sound : (w : World S) (n : ℕ) (r : Request) → IsSound w → IsSound (happens M w (Client n 0 r)).world
-  next_sound w n (request.Write g c) h = by_fault (M.fault c) refl
+  arrival_is : (a b : ℕ) → cause.Arrival a ≡ cause.Arrival b → a ≡ b
+  arrival_is a b e = cc
+
+  written_sound : (w : World S) (c : ShardCommand) → IsSound w → IsSound (written w c)
+  written_sound w c h = appended_sound w (w.arrivals + 1) (cause.Arrival (w.arrivals + 1)) c (omega arith) (λ a e. let is = arrival_is (w.arrivals + 1) a e in (omega (arith, is), omega (arith, is))) h
+
+  no_arrival : (id a : ℕ) → cause.Expiry id ≡ cause.Arrival a → ⊥
+  no_arrival id a e = cc
+
+  expired_sound : (w : World S) (ms id : ℕ) → IsSound w → IsSound (expired w ms id)
+  expired_sound w ms id h = appended_sound (waited w ms) w.arrivals (cause.Expiry id) (M.expiry id) (omega arith) (λ a e. absurd (no_arrival id a e)) (moved_sound w w.arrivals (at_time w.replica ms).clock w.replica.timers (omega arith) h)
+
+  request_sound : (w : World S) (n : ℕ) (r : Request) → IsSound w → IsSound (happens M w (Client n 0 r)).world
+  request_sound w n (request.Write g c) h = by_fault (M.fault c) refl
     where
       by_fault : (f : Option Bad) → M.fault c ≡ f → IsSound (happens M w (Client n 0 (request.Write g c))).world
       by_fault None e = subst IsSound (sym (write_is w n g c e h)) (written_sound w c h)
-      by_fault (Some bad) e = subst IsSound (sym (refused_is w n 0 g c bad e h)) (counted_sound w h)
-  next_sound w n (request.Read q) h = subst IsSound (sym (read_is w n 0 q h)) (counted_sound w h)
+      by_fault (Some bad) e = subst IsSound (sym (refused_is w n 0 g c bad e h)) (moved_sound w (w.arrivals + 1) w.replica.clock w.replica.timers (omega arith) h)
+  request_sound w n (request.Read q) h = subst IsSound (sym (read_is w n 0 q h)) (moved_sound w (w.arrivals + 1) w.replica.clock (hears (M.heard q) w.replica.clock w.replica.timers) (omega arith) h)
+
+  tick_sound : (w : World S) (n ms : ℕ) → IsSound w → IsSound (happens M w (Tick n 0 ms)).world
+  tick_sound w n ms h = by_due (runs_out (at_time w.replica ms)) refl
+    where
+      by_due : (o : Option ℕ) → runs_out (at_time w.replica ms) ≡ o → IsSound (happens M w (Tick n 0 ms)).world
+      by_due None e = subst IsSound (sym (waited_is w n ms e)) (moved_sound w w.arrivals (at_time w.replica ms).clock w.replica.timers (omega arith) h)
+      by_due (Some id) e = subst IsSound (sym (expired_is w n ms id e h)) (expired_sound w ms id h)
+
+  pub next_sound : (w : World S) (e : Event) → shard_named e ≡ 0 → IsSound w → IsSound (happens M w e).world
+  next_sound w (Client n s r) zero_shard h = rw zero_shard (request_sound w n r h)
+  next_sound w (Tick n s ms) zero_shard h = rw zero_shard (tick_sound w n ms h)
+
+  -- an event adds one entry at most
+  longer_request : (w : World S) (n : ℕ) (r : Request) → IsSound w → length (happens M w (Client n 0 r)).world.history ≤ length w.history + 1
+  longer_request w n (request.Write g c) h = by_fault (M.fault c) refl
+    where
+      by_fault : (f : Option Bad) → M.fault c ≡ f → length (happens M w (Client n 0 (request.Write g c))).world.history ≤ length w.history + 1
+      by_fault None e = omega (arith, ap (λ (v : World S). length v.history) (write_is w n g c e h), ap length h.history, length-append w.replica.log (new_entry w c ∷ []))
+      by_fault (Some bad) e = omega (arith, ap (λ (v : World S). length v.history) (refused_is w n 0 g c bad e h))
+  longer_request w n (request.Read q) h = omega (arith, ap (λ (v : World S). length v.history) (read_is w n 0 q h))
+
+  longer_tick : (w : World S) (n ms : ℕ) → IsSound w → length (happens M w (Tick n 0 ms)).world.history ≤ length w.history + 1
+  longer_tick w n ms h = by_due (runs_out (at_time w.replica ms)) refl
+    where
+      by_due : (o : Option ℕ) → runs_out (at_time w.replica ms) ≡ o → length (happens M w (Tick n 0 ms)).world.history ≤ length w.history + 1
+      by_due None e = omega (arith, ap (λ (v : World S). length v.history) (waited_is w n ms e))
+      by_due (Some id) e = omega (arith, ap (λ (v : World S). length v.history) (expired_is w n ms id e h), ap length h.history, length-append w.replica.log (new_entry (waited w ms) (M.expiry id) ∷ []))
+
+  pub longer_by_one : (w : World S) (e : Event) → shard_named e ≡ 0 → IsSound w → length (happens M w e).world.history ≤ length w.history + 1
+  longer_by_one w (Client n s r) zero_shard h = rw zero_shard (longer_request w n r h)
+  longer_by_one w (Tick n s ms) zero_shard h = rw zero_shard (longer_tick w n ms h)
+
+  -- an event brings one arrival at most
+  pub arrivals_most : (w : World S) (e : Event) → (w.arrivals ≤ (happens M w e).world.arrivals) × ((happens M w e).world.arrivals ≤ w.arrivals + 1)
+  unfolding happens
+  arrivals_most w (Client n s r) = (omega arith, omega arith)
+  arrivals_most w (Tick n s ms) = by_due (runs_out (at_time w.replica ms))
+    where
+      by_due : (o : Option ℕ) → (w.arrivals ≤ (expires M w s (at_time w.replica ms) o).world.arrivals) × ((expires M w s (at_time w.replica ms) o).world.arrivals ≤ w.arrivals + 1)
+      by_due None = (omega arith, omega arith)
+      by_due (Some id) = (omega arith, omega arith)
 
   -- ---- worlds by their place
 
@@ -223,7 +298,7 @@ module _ {S : Type 0} (M : Meaning S) where
 
   -- all events are at shard 0
   abbrev pub AtShardZero : List Event → Type 0
-  AtShardZero es = (k n s : ℕ) (r : Request) → slice_get es k ≡ Some (Client n s r) → s ≡ 0
+  AtShardZero es = (k : ℕ) (e : Event) → slice_get es k ≡ Some e → shard_named e ≡ 0
 
   module _ (es : List Event) where
     pub at_next : (k : ℕ) (e : Event) → slice_get es k ≡ Some e → world_at M es (suc k) ≡ (happens M (world_at M es k) e).world
@@ -244,10 +319,7 @@ module _ {S : Type 0} (M : Meaning S) where
 
     sound_next : AtShardZero es → (k : ℕ) → IsSound (world_at M es k) → (o : Option Event) → slice_get es k ≡ o → IsSound (world_at M es (suc k))
     sound_next only k sound None e = subst IsSound (sym (at_end k e)) sound
-    sound_next only k sound (Some (Client n s r)) e =
-        let zero_shard : s ≡ 0 = only k n s r e in
-        let here : slice_get es k ≡ Some (Client n 0 r) = e ∙ ap (λ x. Some (Client n x r)) zero_shard in
-        subst IsSound (sym (at_next k (Client n 0 r) here)) (next_sound (world_at M es k) n r sound)
+    sound_next only k sound (Some d) e = subst IsSound (sym (at_next k d e)) (next_sound (world_at M es k) d (only k d e) sound)
 
     pub sound_at : AtShardZero es → (k : ℕ) → IsSound (world_at M es k)
     sound_at only zero = subst IsSound (sym at_first) opening_sound
@@ -256,10 +328,15 @@ module _ {S : Type 0} (M : Meaning S) where
     grows : (w : World S) (e : Event) → Begins w.history (happens M w e).world.history
     unfolding happens
     grows w (Client n s r) = (_, refl)
+    grows w (Tick n s ms) = by_due (runs_out (at_time w.replica ms))
+      where
+        by_due : (o : Option ℕ) → Begins w.history (expires M w s (at_time w.replica ms) o).world.history
+        by_due None = ([], sym (append-nil w.history))
+        by_due (Some id) = (_, refl)
 
-    counts : (w : World S) (e : Event) → (happens M w e).world.arrivals ≡ w.arrivals + 1
+    counts : (w : World S) (n s : ℕ) (r : Request) → (happens M w (Client n s r)).world.arrivals ≡ w.arrivals + 1
     unfolding happens
-    counts w (Client n s r) = refl
+    counts w n s r = refl
 
     -- the history of one moment begins that of the next
     begins_next : (k : ℕ) → Begins (world_at M es k).history (world_at M es (suc k)).history
@@ -287,12 +364,12 @@ module _ {S : Type 0} (M : Meaning S) where
     pub longer_later : (j k : ℕ) → j ≤ k → length (world_at M es j).history ≤ length (world_at M es k).history
     longer_later j k h = begins_shorter _ _ (begins_later j k h)
 
-    pub arrivals_next : (k : ℕ) (e : Event) → slice_get es k ≡ Some e → (world_at M es (suc k)).arrivals ≡ (world_at M es k).arrivals + 1
-    arrivals_next k e h = ap (λ (w : World S). w.arrivals) (at_next k e h) ∙ counts (world_at M es k) e
+    pub arrivals_next : (k n s : ℕ) (r : Request) → slice_get es k ≡ Some (Client n s r) → (world_at M es (suc k)).arrivals ≡ (world_at M es k).arrivals + 1
+    arrivals_next k n s r h = ap (λ (w : World S). w.arrivals) (at_next k (Client n s r) h) ∙ counts (world_at M es k) n s r
 
     arrivals_one : (k : ℕ) (o : Option Event) → slice_get es k ≡ o → (world_at M es k).arrivals ≤ (world_at M es (suc k)).arrivals
     arrivals_one k None e = omega (arith, ap (λ (w : World S). w.arrivals) (at_end k e))
-    arrivals_one k (Some d) e = omega (arith, arrivals_next k d e)
+    arrivals_one k (Some d) e = omega (arith, ap (λ (w : World S). w.arrivals) (at_next k d e), (arrivals_most (world_at M es k) d).0)
 
     pub arrivals_later : (j k : ℕ) → j ≤ k → (world_at M es j).arrivals ≤ (world_at M es k).arrivals
     arrivals_later j zero h = let is : j ≡ 0 = omega arith in rw is (omega arith)

@@ -1,6 +1,11 @@
 pub mod ScheduleLemmas
 pub mod OriginLemmas
 pub mod LegalLemmas
+pub mod RunningLemmas
+pub mod TimerLemmas
+pub mod SessionLemmas
+pub mod LeaderLemmas
 pub mod AnswerLemmas
+pub mod NoticeLemmas
 pub mod ReportLemmas
 pub mod CompleteLemmas

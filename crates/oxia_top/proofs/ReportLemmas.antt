@@ -1,15 +1,9 @@
 -- One event more: the text so far and that of what is left.
 use Rattle.std.specs.List.{list_all}
-use Rattle.std.proofs.Common.{◌≡◌, ◌∙◌, ℕ, ◌+◌, ◌<◌, ◌≤◌, List, [], ◌∷◌, ◌++◌, length, true, Option, Some, None, refl, sym, ap, subst, arith, append_assoc, append-nil, length-append}
-use Rattle.ox_types.specs.declared.bad.Bad.{Bad}
-use Rattle.ox_ops.specs.Check.{command_fault}
-use Rattle.ox_schedule.specs.declared.schedule.Request.{Request}
-use Rattle.ox_schedule.specs.declared.schedule.Request.TheVariants.{Write, Read}
+use Rattle.std.proofs.Common.{◌≡◌, ◌∙◌, ℕ, ◌+◌, ◌<◌, ◌≤◌, List, [], ◌∷◌, ◌++◌, length, true, refl, sym, ap, arith, append_assoc, append-nil}
 use Rattle.ox_schedule.specs.declared.schedule.Event.{Event}
-use Rattle.ox_schedule.specs.declared.schedule.Event.TheVariants.{Client}
 use Rattle.ox_schedule.specs.declared.schedule.Places.{Places}
 use Rattle.ox_schedule.specs.declared.schedule.Schedule.{Schedule}
-use Rattle.oxia_top.specs.declared.leader.Entry.{Entry}
 use Rattle.ox_schedule.specs.Spelling.{is_event}
 use Rattle.ox_ops.specs.State.{ShardState}
 use Rattle.oxia_top.specs.Shard.{shard_meaning}
@@ -17,8 +11,8 @@ use Rattle.oxia_top.specs.World.{World, happens, run_from, run_of, world_after, 
 use Rattle.ox_schedule.specs.Lawful.{asks_encodable}
 use Rattle.oxia_top.specs.Origins.{AreInStep}
 use Rattle.oxia_top.specs.Report.{moment_text, moments_text, end_text, history_text, report_of}
-use Rattle.oxia_top.proofs.LegalLemmas.{IsSound, opening_sound, next_sound, write_is, refused_is, read_is, written}
-use Rattle.oxia_top.proofs.ScheduleLemmas.{both, shard_of}
+use Rattle.oxia_top.proofs.LegalLemmas.{IsSound, shard_named, opening_sound, next_sound, longer_by_one, arrivals_most}
+use Rattle.oxia_top.proofs.ScheduleLemmas.{both, shard_is_zero}
 
 -- what the loop over the events keeps, with the events that are left
 pub record Tells (places : Places) (items rest : List Event) (number : ℕ) (text : List ℕ) (w : World ShardState) : Type 0 where
@@ -27,7 +21,7 @@ pub record Tells (places : Places) (items rest : List Event) (number : ℕ) (tex
   pub lawful : list_all (is_event places) rest ≡ true
   pub encodable : list_all asks_encodable rest ≡ true
   pub counted : number + length rest ≡ length items
-  pub arrivals : w.arrivals ≡ number
+  pub arrivals : w.arrivals ≤ number
   pub short : length w.history ≤ number + 1
   pub sound : IsSound shard_meaning w
 
@@ -38,30 +32,13 @@ tells_first places items rest all lawful encodable = rw all (record {
   lawful = lawful;
   encodable = encodable;
   counted = omega arith;
-  arrivals = refl;
+  arrivals = omega arith;
   short = omega arith;
   sound = opening_sound shard_meaning;
 })
 
-arrivals_more : (w : World ShardState) (e : Event) → (happens shard_meaning w e).world.arrivals ≡ w.arrivals + 1
-unfolding happens
-arrivals_more w (Client n s r) = refl
-
-history_more : (w : World ShardState) (n : ℕ) (r : Request) → IsSound shard_meaning w → length (happens shard_meaning w (Client n 0 r)).world.history ≤ length w.history + 1
-history_more w n (Write g c) h = by_fault (command_fault c) refl
-  where
-    more : length (written shard_meaning w c).history ≤ length w.replica.log + 1
-    more = omega (arith, length-append {A = Entry})
-
-    by_fault : (f : Option Bad) → command_fault c ≡ f → length (happens shard_meaning w (Client n 0 (Write g c))).world.history ≤ length w.history + 1
-    by_fault None e = omega (arith, ap (λ (v : World ShardState). length v.history) (write_is shard_meaning w n g c e h), ap length h.history, more)
-    by_fault (Some bad) e = omega (arith, ap (λ (v : World ShardState). length v.history) (refused_is shard_meaning w n 0 g c bad e h))
-history_more w n (Read q) h = omega (arith, ap (λ (v : World ShardState). length v.history) (read_is shard_meaning w n 0 q h))
-
-sound_more : (w : World ShardState) (e : Event) → ((n s : ℕ) (r : Request) → e ≡ Client n s r → s ≡ 0) → IsSound shard_meaning w → IsSound shard_meaning (happens shard_meaning w e).world × (length (happens shard_meaning w e).world.history ≤ length w.history + 1)
-sound_more w (Client n s r) only h =
-    let zero_shard : s ≡ 0 = only n s r refl in
-    rw zero_shard (next_sound shard_meaning w n r h, history_more w n r h)
+sound_more : (w : World ShardState) (e : Event) → shard_named e ≡ 0 → IsSound shard_meaning w → IsSound shard_meaning (happens shard_meaning w e).world × (length (happens shard_meaning w e).world.history ≤ length w.history + 1)
+sound_more w e zero_shard h = (next_sound shard_meaning w e zero_shard h, longer_by_one shard_meaning w e zero_shard h)
 
 pub none_of : {A : Type 0} (xs : List A) → length xs ≡ 0 → xs ≡ []
 none_of [] h = refl
@@ -92,7 +69,7 @@ tells_next places items rest rest' number text text' w w' e one t here world nex
   lawful = lawful.1;
   encodable = encodable.1;
   counted = omega (arith, t.counted, ap length here);
-  arrivals = omega (arith, t.arrivals, arrivals_more w e);
+  arrivals = omega (arith, t.arrivals, (arrivals_most shard_meaning w e).1);
   short = omega (arith, t.short, grown.1);
   sound = grown.0;
 })
@@ -104,7 +81,7 @@ tells_next places items rest rest' number text text' w w' e one t here world nex
     encodable = (let h = rw here at t.encodable in both (asks_encodable e) (list_all asks_encodable rest') h)
 
     grown : IsSound shard_meaning (happens shard_meaning w e).world × (length (happens shard_meaning w e).world.history ≤ length w.history + 1)
-    grown = sound_more w e (λ n z r is. shard_of places n z r one (subst (λ (x : Event). is_event places x ≡ true) is lawful.0)) t.sound
+    grown = sound_more w e (shard_is_zero places e one lawful.0) t.sound
 
     next_told : text' ++ moments_text (number + 1 + 1) (run_from shard_meaning (happens shard_meaning w e).world rest') ≡ moments_text 1 (run_of shard_meaning items)
     next_told =

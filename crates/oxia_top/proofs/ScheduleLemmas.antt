@@ -3,19 +3,19 @@ use Rattle.std.proofs.Common.{◌≡◌, ℕ, ◌<◌, true, ◌&&◌, Bool, fal
 use Rattle.std.specs.List.{list_all}
 use Rattle.std.proofs.lemmas.Bool.{eqb-true}
 use Rattle.std.proofs.lemmas.Bool.Decides.{Decides-ltb}
-use Rattle.ox_schedule.specs.declared.schedule.Request.{Request}
 use Rattle.ox_schedule.specs.declared.schedule.Event.{Event}
-use Rattle.ox_schedule.specs.declared.schedule.Event.TheVariants.{Client}
+use Rattle.ox_schedule.specs.declared.schedule.Event.TheVariants.{Client, Tick}
 use Rattle.ox_schedule.specs.declared.schedule.Places.{Places}
 use Rattle.ox_schedule.specs.declared.schedule.First.{First}
 use Rattle.ox_schedule.specs.declared.schedule.First.TheVariants.{Solo}
 use Rattle.ox_schedule.specs.declared.schedule.Schedule.{Schedule}
 use Rattle.ox_schedule.specs.Spelling.{is_event}
 use Rattle.ox_schedule.specs.Schedule.{IsSchedule, is_first, places_of}
-use Rattle.oxia_top.specs.Shard.{shard_meaning}
+use Rattle.oxia_top.specs.Shard.{shard_meaning, shard_noticing}
 use Rattle.oxia_top.specs.Legal.{IsLegal}
-use Rattle.oxia_top.proofs.LegalLemmas.{AtShardZero}
-use Rattle.oxia_top.proofs.AnswerLemmas.{is_legal}
+use Rattle.oxia_top.proofs.LegalLemmas.{AtShardZero, shard_named, sound_at}
+use Rattle.oxia_top.proofs.AnswerLemmas.{is_legal, reads_match}
+use Rattle.oxia_top.proofs.NoticeLemmas.{notices_complete}
 
 pub both : (a b : Bool) → a && b ≡ true → (a ≡ true) × (b ≡ true)
 both true true h = (refl, refl)
@@ -27,8 +27,14 @@ lawful_at p [] k e h g = absurd cc
 lawful_at p (d ∷ es) ℕ.zero e h g = let is : d ≡ e = cc in rw (← is) (both (is_event p d) _ h).0
 lawful_at p (d ∷ es) (ℕ.suc k) e h g = lawful_at p es k e (both (is_event p d) _ h).1 g
 
-pub shard_of : (p : Places) (n s : ℕ) (r : Request) → p.shards ≡ 1 → is_event p (Client n s r) ≡ true → s ≡ 0
-shard_of p n s r one h =
+-- an event comes to a shard that is there
+pub shard_is_zero : (p : Places) (e : Event) → p.shards ≡ 1 → is_event p e ≡ true → shard_named e ≡ 0
+shard_is_zero p (Client n s r) one h =
+    let a = both _ _ h in
+    let b = both _ _ a.0 in
+    let below : s < p.shards = (Decides-ltb s p.shards).0 b.1 in
+    omega (arith, below, one)
+shard_is_zero p (Tick n s ms) one h =
     let a = both _ _ h in
     let b = both _ _ a.0 in
     let below : s < p.shards = (Decides-ltb s p.shards).0 b.1 in
@@ -38,7 +44,9 @@ pub one_shard : (f : First) → is_first f ≡ true → (places_of f).shards ≡
 one_shard (Solo s) h = eqb-true s 1 h
 
 pub at_shard_zero : (s : Schedule) → IsSchedule s → AtShardZero shard_meaning s.events
-at_shard_zero s h k n shard r g = shard_of (places_of s.first) n shard r (one_shard s.first h.first) (lawful_at (places_of s.first) s.events k _ h.lawful g)
+at_shard_zero s h k e g = shard_is_zero (places_of s.first) e (one_shard s.first h.first) (lawful_at (places_of s.first) s.events k e h.lawful g)
 
-pub every_run_is_legal : (s : Schedule) → IsSchedule s → IsLegal shard_meaning s.events
-every_run_is_legal s h = is_legal shard_meaning s.events (at_shard_zero s h)
+pub every_run_is_legal : (s : Schedule) → IsSchedule s → IsLegal shard_meaning s.events shard_noticing
+every_run_is_legal s h =
+    let only = at_shard_zero s h in
+    is_legal shard_meaning s.events only shard_noticing (notices_complete s.events (reads_match shard_meaning s.events only) (sound_at shard_meaning s.events only))

@@ -14,10 +14,12 @@ use Rattle.ox_schedule.specs.declared.schedule.Event.{Event}
 use Rattle.oxia_top.specs.declared.leader.Body.TheVariants as body
 use Rattle.oxia_top.specs.declared.leader.Entry.{Entry}
 use Rattle.oxia_top.specs.declared.world.Cause.{Cause}
-use Rattle.oxia_top.specs.declared.world.Cause.TheVariants.{Opening, Arrival}
+use Rattle.oxia_top.specs.declared.world.Cause.TheVariants.{Opening, Arrival, Expiry}
 use Rattle.oxia_top.specs.Meaning.{Meaning, state_after, reply_at, answer_after}
 use Rattle.oxia_top.specs.Leader.{Replica}
 use Rattle.oxia_top.specs.Moments.{Begins, history_at, replica_at, CameBefore, Acks, Reads, Refuses, IsFrom}
+use Rattle.oxia_top.specs.Expiry.{IsExpiry}
+use Rattle.oxia_top.specs.Notices.{Noticing, NoticesAreComplete}
 
 module _ {S : Type 0} (M : Meaning S) (es : List Event) where
   -- the history has, at the offset, an entry of the term that comes from the arrival and whose command is the arrival's request
@@ -43,17 +45,21 @@ module _ {S : Type 0} (M : Meaning S) (es : List Event) where
   abbrev pub RepliesMatch : Type 0
   RepliesMatch = (k j a s t o : ℕ) (reply : ShardReply) → Acks M es k j a s t o reply → reply_at M (history_at M es (k + 1) s) o ≡ Some reply
 
-  -- an entry of the opening is a Pass; one from an arrival is the command that came so, which has no fault
+  -- an entry of the opening is a Pass; one from an arrival is the command that came so, which has no fault; and one from a
+  -- timer is the expiry of a session whose timer had run out
   abbrev pub IsCaused : ℕ → ℕ → Entry → Cause → Type 0
   IsCaused k s e Opening = e.body ≡ body.Pass
   IsCaused k s e (Arrival a) = (grouping : Grouping) × (command : ShardCommand) × CameBefore M es k a s (Write grouping command) × (M.fault command ≡ None) × (e.body ≡ body.Command command)
+  IsCaused k s e (Expiry id) = IsExpiry M es k s e id
 
-  -- every entry of a history has its cause, and no arrival stands in it twice
+  -- every entry of a history has its cause and its own offset, and no arrival stands in it twice
   pub record EntriesHaveCauses : Type 0 where
     pub caused : (k s o : ℕ) (e : Entry) → slice_get (history_at M es k s) o ≡ Some e → (x : Cause) × IsFrom M es k s e x × IsCaused k s e x
     pub once :
         (k s o p a : ℕ) (e f : Entry) → slice_get (history_at M es k s) o ≡ Some e → slice_get (history_at M es k s) p ≡ Some f →
         IsFrom M es k s e (Arrival a) → IsFrom M es k s f (Arrival a) → o ≡ p
+    -- each entry has the offset at which it stands
+    pub in_place : (k s o : ℕ) (e : Entry) → slice_get (history_at M es k s) o ≡ Some e → e.offset ≡ o
 
   -- The told prefix is part of the history and the answer is the one-thread store's after it. It is above every offset
   -- acknowledged in a lower term, or earlier in its own, and it reaches every prefix told to a read so.
@@ -95,10 +101,11 @@ module _ {S : Type 0} (M : Meaning S) (es : List Event) where
     pub agree : (k n s : ℕ) (r : Replica S) → replica_at M es k n s ≡ Some r → Agrees r (history_at M es k s)
     pub grows : (j k s : ℕ) → j ≤ k → Begins (history_at M es j s) (history_at M es k s)
 
-  pub record IsLegal : Type 0 where
+  pub record IsLegal (N : Noticing S) : Type 0 where
     pub acknowledged : IsAcknowledgedInPlace
     pub replies : RepliesMatch
     pub causes : EntriesHaveCauses
     pub reads : ReadsMatch
     pub refusals : RefusalsAreTrue
     pub replicas : ReplicasAgree
+    pub notices : NoticesAreComplete M N es

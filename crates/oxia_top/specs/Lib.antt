@@ -1,9 +1,12 @@
 pub mod Meaning
 pub mod Shard
 pub mod Leader
+pub mod Ready
 pub mod World
 pub mod Origins
 pub mod Moments
+pub mod Expiry
+pub mod Notices
 pub mod Legal
 pub mod Report
 pub mod Input

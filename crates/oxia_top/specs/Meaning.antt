@@ -6,18 +6,23 @@ use Rattle.ox_ops.specs.declared.reply.ShardReply.{ShardReply}
 use Rattle.ox_ops.specs.declared.answer.ShardAnswer.{ShardAnswer}
 use Rattle.ox_types.specs.declared.bad.Bad.{Bad}
 use Rattle.ox_types.specs.declared.log.EntryId.{EntryId}
+use Rattle.ox_types.specs.declared.timer.Timer.{Timer}
 use Rattle.oxia_top.specs.declared.leader.Body.{Body}
 use Rattle.oxia_top.specs.declared.leader.Body.TheVariants as body
 use Rattle.oxia_top.specs.declared.leader.Entry.{Entry}
 
 -- An opening value; what the command of an entry at a time makes of a value, and the reply to it; the answer to a query;
--- the first fault of a client's command.
+-- the first fault of a client's command; the timers that run, by rising id; the timer that a query starts anew; the command
+-- of a timer that ran out.
 pub record Meaning (S : Type 0) : Type 0 where
   pub opening : S
   pub step : S → EntryId → ℕ → ShardCommand → S
   pub reply : S → EntryId → ℕ → ShardCommand → ShardReply
   pub answer : S → ShardQuery → ShardAnswer
   pub fault : ShardCommand → Option Bad
+  pub timers : S → List Timer
+  pub heard : ShardQuery → Option ℕ
+  pub expiry : ℕ → ShardCommand
 
 abbrev pub id_of : Entry → EntryId
 id_of e = record { term = e.term; offset = e.offset }

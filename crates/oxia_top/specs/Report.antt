@@ -69,6 +69,7 @@ cause_of shard e (x ∷ xs) = if (x.shard == shard) && ((x.term == e.term) && (x
 abbrev pub by_arrival : List ℕ → Cause → List ℕ
 by_arrival word cause.Opening = word
 by_arrival word (cause.Arrival a) = word ++ field a
+by_arrival word (cause.Expiry id) = word
 
 -- what a command is in a history
 abbrev pub command_text : ShardCommand → Cause → List ℕ

@@ -1,7 +1,7 @@
 -- The world of a run, one event of it, and the run of a schedule.
 use Rattle.std.specs.Prelude.{ℕ, ◌+◌, List, [], ◌∷◌, ◌++◌, length, take, drop, map, Option, Some, None}
 use Rattle.ox_schedule.specs.declared.schedule.Event.{Event}
-use Rattle.ox_schedule.specs.declared.schedule.Event.TheVariants.{Client}
+use Rattle.ox_schedule.specs.declared.schedule.Event.TheVariants.{Client, Tick}
 use Rattle.ox_types.specs.declared.log.Head.{Head}
 use Rattle.oxia_top.specs.declared.leader.Entry.{Entry}
 use Rattle.oxia_top.specs.declared.world.Cause.{Cause}
@@ -10,7 +10,7 @@ use Rattle.oxia_top.specs.declared.world.Origin.{Origin}
 use Rattle.oxia_top.specs.declared.world.Effect.{Effect}
 use Rattle.oxia_top.specs.declared.world.Effect.TheVariants.{Arrival, Kept, Answered}
 use Rattle.oxia_top.specs.Meaning.{Meaning}
-use Rattle.oxia_top.specs.Leader.{Replica, Output, pass_entry, opening_replica, takes}
+use Rattle.oxia_top.specs.Leader.{Replica, Output, pass_entry, opening_replica, takes, at_time, runs_out, with_entry, expiry_of}
 
 -- The replica of node 1 and shard 0, which are the only ones; how many requests have come; the origin of each entry
 -- that a leader kept; and the history of the shard.
@@ -87,9 +87,27 @@ module _ {S : Type 0} (M : Meaning S) where
     history = pass_entry ∷ [];
   }
 
+  -- where a timer has run out, the leader keeps the expiry of its id, which is committed and applied at once
+  abbrev pub expires : World S → ℕ → Replica S → Option ℕ → Happened S
+  expires w shard r None = record { world = record w { replica = r }; effects = [] }
+  expires w shard r (Some id) = record {
+    world = record {
+      replica = with_entry M r (expiry_of M r id);
+      arrivals = w.arrivals;
+      origins = w.origins ++ origin_of shard (cause.Expiry id) (expiry_of M r id) ∷ [];
+      history = grown w.history (r.log ++ expiry_of M r id ∷ []) (length r.log + 1);
+    };
+    effects = kept_effects (with_entry M r (expiry_of M r id)) (expiry_of M r id ∷ []);
+  }
+
+  -- a tick moves the time, and at most one timer runs out
+  abbrev pub ticks : World S → ℕ → ℕ → Happened S
+  ticks w shard ms = expires w shard (at_time w.replica ms) (runs_out (at_time w.replica ms))
+
   -- the world after an event, and its effects
   unfoldable pub happens : World S → Event → Happened S
   happens w (Client node shard request) = comes w shard (w.arrivals + 1) (takes M w.replica request)
+  happens w (Tick node shard ms) = ticks w shard ms
 
   -- the moments of a run from a world on
   abbrev pub run_from : World S → List Event → List (Moment S)

@@ -8,6 +8,7 @@ mod output;
 mod report;
 mod text;
 mod top;
+mod wire;
 mod world;
 
 pub use law::law_legal;

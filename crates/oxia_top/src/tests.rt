@@ -250,13 +250,13 @@ fn bad_lines(rt: HostRuntime) -> Result<(), Fail> {
         (b"solo 1 8", 1, LineRule::First),
         (b"solo 1\n\n", 2, LineRule::Word),
         (b"solo 1\nclient 1 0 put a\tx\n", 2, LineRule::Bytes),
-        (b"solo 1\ntick 1 0 5", 2, LineRule::Word),
+        (b"solo 1\nstop 1", 2, LineRule::Word),
         (b"solo 1\nclient x 0 frob", 2, LineRule::Word),
         (b"solo 1\nclient 01 0 put a x", 2, LineRule::Number),
         (b"solo 1\nclient 2 0 put a x", 2, LineRule::Name),
         (b"solo 1\nclient 1 0 put %41 %", 2, LineRule::Key),
         (b"solo 1\nclient 1 0 put a % expect=1", 2, LineRule::Value),
-        (b"solo 1\nclient 1 0 put a x seq=1", 2, LineRule::Option),
+        (b"solo 1\nclient 1 0 put a x seq=1,", 2, LineRule::Number),
         (
             b"solo 1\nclient 1 0 batch delete a + put % x",
             2,
@@ -342,5 +342,115 @@ fn an_input_of_one_byte_too_many(rt: HostRuntime) -> Result<(), Fail> {
         ended(rt.alloc(), &[b"replay"], most + 1)?,
         Ended::InputTooLong
     );
+    Ok(())
+}
+
+#[test]
+fn a_session_runs_out(rt: HostRuntime) -> Result<(), Fail> {
+    let text =
+        b"solo 1\nclient 1 0 open 5000\nclient 1 0 put e x session=1\ntick 1 0 4999\ntick 1 0 5000\nclient 1 0 list * *\n";
+    let (ended, bytes) = replayed(rt.alloc(), text, 0, 1000)?;
+    assert_eq!(rt; ended, Ended::Done);
+    let wanted =
+        b"@1 client 1 0 open 5000\n  arrival 1\n  kept append=1 head=1:2\n  ack 1 1 1 opened 1\n@2 client 1 0 put e x session=1\n  arrival 2\n  kept append=1 head=1:3\n  ack 2 1 2 put e 0 0 0 0\n@3 tick 1 0 4999\n@4 tick 1 0 5000\n  kept append=1 head=1:4\n@5 client 1 0 list * *\n  arrival 3\n  read 3 1 4 keys 0 all\nhistory 0 4\n  0 1 0 pass\n  1 1 0 open 1\n  2 1 0 write 2\n  3 1 5000 expire 1\n";
+    assert_eq!(rt; bytes.as_slice(), wanted.as_slice());
+    Ok(())
+}
+
+#[test]
+fn a_sign_of_life_starts_the_timer_anew(rt: HostRuntime) -> Result<(), Fail> {
+    let text =
+        b"solo 1\nclient 1 0 open 5000\ntick 1 0 4000\nclient 1 0 keep 1\nclient 1 0 keep 2\ntick 1 0 8999\nclient 1 0 keep 1\ntick 1 0 13998\ntick 1 0 13999\ntick 1 0 30000\nclient 1 0 keep 1\n";
+    let lines: [&[u8]; 9] = [
+        b"  read 2 1 2 alive",
+        b"  read 3 1 2 no-session 2",
+        b"  read 4 1 2 alive",
+        b"@7 tick 1 0 13998",
+        b"@8 tick 1 0 13999",
+        b"  kept append=1 head=1:3",
+        b"@9 tick 1 0 30000",
+        b"  read 5 1 3 no-session 1",
+        b"history 0 3",
+    ];
+    assert!(rt; tells(rt.alloc(), text, &lines)?);
+    Ok(())
+}
+
+#[test]
+fn a_tick_ends_one_session_and_time_never_goes_back(rt: HostRuntime) -> Result<(), Fail> {
+    let text =
+        b"solo 1\nclient 1 0 open 2000\nclient 1 0 open 1000\ntick 1 0 9000\ntick 1 0 1\nclient 1 0 open 1000\nclient 1 0 close 5\nclient 1 0 close 5\ntick 1 0 18446744073709551615\nclient 1 0 put a x\n";
+    let lines: [&[u8]; 9] = [
+        b"  ack 5 1 7 no-session 5",
+        b"  ack 6 1 8 put a 0 0 9007199254740992 9007199254740992",
+        b"history 0 9",
+        b"  2 1 0 open 2",
+        b"  3 1 9000 expire 1",
+        b"  4 1 9000 expire 2",
+        b"  5 1 9000 open 3",
+        b"  6 1 9000 close 4",
+        b"  8 1 9007199254740992 write 6",
+    ];
+    assert!(rt; tells(rt.alloc(), text, &lines)?);
+    Ok(())
+}
+
+#[test]
+fn old_notices_are_dropped(rt: HostRuntime) -> Result<(), Fail> {
+    let text =
+        b"solo 1\nclient 1 0 put a x\ntick 1 0 3600001\nclient 1 0 put b y\nclient 1 0 notices 1 0\nclient 1 0 notices 0 0\nclient 1 0 notices 2 0\n";
+    let lines: [&[u8]; 3] = [
+        b"  read 3 1 3 notices 1 all | 2 created b 1",
+        b"  read 4 1 3 not-retained 0 1",
+        b"  read 5 1 3 notices 0 all",
+    ];
+    assert!(rt; tells(rt.alloc(), text, &lines)?);
+    let text =
+        b"solo 1\nclient 1 0 put a x\ntick 1 0 3600000\nclient 1 0 put b y\nclient 1 0 notices 1 0\nclient 1 0 notices 0 0\nclient 1 0 deleterange a c\nclient 1 0 deleterange a c\nclient 1 0 notices 1 1\n";
+    let lines: [&[u8]; 3] = [
+        b"  read 3 1 3 notices 1 all | 2 created b 1",
+        b"  read 4 1 3 notices 2 all | 1 created a 0 | 2 created b 1",
+        b"  read 7 1 5 notices 1 all | 3 ranged a c",
+    ];
+    assert!(rt; tells(rt.alloc(), text, &lines)?);
+    Ok(())
+}
+
+#[test]
+fn a_close_takes_the_session_s_records(rt: HostRuntime) -> Result<(), Fail> {
+    let text =
+        b"solo 1\nclient 1 0 open 5000\nclient 1 0 put e1 x session=1\nclient 1 0 put e2 x session=1\nclient 1 0 put e1 y\nclient 1 0 close 1\nclient 1 0 list * *\nclient 1 0 notices 4 0\nclient 1 0 put e3 z session=1\n";
+    let lines: [&[u8]; 8] = [
+        b"  ack 1 1 1 opened 1",
+        b"  ack 2 1 2 put e1 0 0 0 0",
+        b"  ack 3 1 3 put e2 1 0 0 0",
+        b"  ack 4 1 4 put e1 2 1 0 0",
+        b"  ack 5 1 5 closed 1",
+        b"  read 6 1 6 keys 1 all e1",
+        b"  read 7 1 6 notices 1 all | 5 deleted e2",
+        b"  ack 8 1 6 no-session 1",
+    ];
+    assert!(rt; tells(rt.alloc(), text, &lines)?);
+    Ok(())
+}
+
+#[test]
+fn sequence_keys_and_indexes(rt: HostRuntime) -> Result<(), Fail> {
+    let text =
+        b"solo 1\nclient 1 0 put q x seq=1\nclient 1 0 put q x seq=3\nclient 1 0 put q x seq=18446744073709551615\nclient 1 0 put q x seq=0\n";
+    let lines: [&[u8]; 4] = [
+        b"  ack 1 1 1 put q-00000000000000000001 0 0 0 0",
+        b"  ack 2 1 2 put q-00000000000000000004 1 0 0 0",
+        b"  ack 3 1 3 spent 0",
+        b"  refuse 4 bad-request put 0 first",
+    ];
+    assert!(rt; tells(rt.alloc(), text, &lines)?);
+    let text =
+        b"solo 1\nclient 1 0 put a x index=owner:b1\nclient 1 0 put b y index=owner:b1\nclient 1 0 list b1 * by=owner\nclient 1 0 get equal b1 by=owner\n";
+    let lines: [&[u8]; 2] = [
+        b"  read 3 1 3 keys 2 all a b",
+        b"  read 4 1 3 record a x 0 0 0 0 - owner:b1",
+    ];
+    assert!(rt; tells(rt.alloc(), text, &lines)?);
     Ok(())
 }

@@ -146,6 +146,7 @@ fn add_by_arrival(text: &mut Octets, word: &[u8], cause: Cause) -> Result<(), No
     match cause {
         Cause::Opening => Ok(()),
         Cause::Arrival(arrival) => add_field(text, arrival),
+        Cause::Expiry(_) => Ok(()),
     }
 }
 

@@ -4,6 +4,7 @@ ghost use Rattle.oxia_top.specs.declared.world.Effect.TheVariants.{Arrival as Ar
 ghost use Rattle.oxia_top.specs.World.{one_kept};
 
 use crate::leader::{Entry, Leader, Outcome};
+use crate::wire::carry_request;
 use ox_ops::{ShardCommand, ShardQuery, check};
 use ox_schedule::{Event, Request};
 use ox_types::{Bad, Head, List, NoMemory, Refusal};
@@ -16,6 +17,8 @@ pub enum Cause {
     Opening,
     /// A request, by the number of its arrival, counted from 1.
     Arrival(u64),
+    /// A timer that ran out, by its session.
+    Expiry(u64),
 }
 
 /// Where the entry of a shard at a term and an offset comes from.
@@ -78,7 +81,8 @@ impl World {
     ghost use Rattle.ox_ops.specs.Forms.{command as command_form};
     ghost use Rattle.oxia_top.specs.Shard.{shard_meaning};
     ghost use Rattle.oxia_top.specs.Leader.{writes, reads, tells, refuses, unless_at_fault, takes};
-    ghost use Rattle.oxia_top.specs.World.{opening_world, happens, comes};
+    ghost use Rattle.std.specs.Prelude.{Some};
+    ghost use Rattle.oxia_top.specs.World.{opening_world, happens, comes, ticks, expires};
     ghost use Rattle.ox_schedule.specs.Lawful.{asks_encodable, is_encodable};
 
     pub fn opening(alloc: Global) -> Result<World, NoMemory>
@@ -122,7 +126,11 @@ impl World {
         ensures effects { IfOk result (λ x. x.1 ≡ (happens shard_meaning self event).effects) }
     {
         match event {
-            Event::Client { shard, request, .. } => self.come(alloc, shard, request),
+            Event::Client { shard, request, .. } => {
+                let request = carry_request(alloc, self.arrivals + 1, shard, &request)?;
+                self.come(alloc, shard, request)
+            }
+            Event::Tick { shard, ms, .. } => self.tick(alloc, shard, ms),
         }
     }
 
@@ -215,8 +223,18 @@ impl World {
         ensures world { (shard : ℕ) → IfOk result (λ x. x.0 ≡ (comes self shard (self.arrivals + 1) (reads shard_meaning self.replica query.now)).world) }
         ensures effects { (shard : ℕ) → IfOk result (λ x. x.1 ≡ (comes self shard (self.arrivals + 1) (reads shard_meaning self.replica query.now)).effects) }
     {
-        let outcome = self.leader.read(query)?;
-        self.tell(alloc, outcome)
+        let World {
+            leader,
+            arrivals,
+            origins,
+        } = self;
+        let (leader, outcome) = leader.read(query)?;
+        let world = World {
+            leader,
+            arrivals,
+            origins,
+        };
+        world.tell(alloc, outcome)
     }
 
     /// The client of the next arrival is told the outcome, and nothing else changes.
@@ -236,6 +254,69 @@ impl World {
             World {
                 leader,
                 arrivals: arrival,
+                origins,
+            },
+            effects,
+        ))
+    }
+
+    /// A tick comes to a shard.
+    fn tick(self, alloc: Global, shard: u64, ms: u64) -> Result<(World, List<Effect>), NoMemory>
+        requires room { length self.history < 2 ^ 53 }
+        ensures world { IfOk result (λ x. x.0 ≡ (ticks shard_meaning self shard ms).world) }
+        ensures effects { IfOk result (λ x. x.1 ≡ (ticks shard_meaning self shard ms).effects) }
+    {
+        let World {
+            leader,
+            arrivals,
+            origins,
+        } = self;
+        let leader = leader.at_time(ms);
+        let runs_out = leader.runs_out();
+        let world = World {
+            leader,
+            arrivals,
+            origins,
+        };
+        match runs_out {
+            Some(session) => world.expire(alloc, shard, session),
+            None => Ok((world, List::new(alloc))),
+        }
+    }
+
+    /// A timer has run out.
+    fn expire(
+        self,
+        alloc: Global,
+        shard: u64,
+        session: u64,
+    ) -> Result<(World, List<Effect>), NoMemory>
+        requires room { length self.history < 2 ^ 53 }
+        ensures world { IfOk result (λ x. x.0 ≡ (expires shard_meaning self shard self.replica (Some session)).world) }
+        ensures effects { IfOk result (λ x. x.1 ≡ (expires shard_meaning self shard self.replica (Some session)).effects) }
+    {
+        let World {
+            leader,
+            arrivals,
+            mut origins,
+        } = self;
+        let before = leader.head();
+        let leader = leader.expire(session)?;
+        origins.push(Origin {
+            shard,
+            term: before.term.0,
+            offset: before.count,
+            cause: Cause::Expiry(session),
+        })?;
+        let mut effects = List::new(alloc);
+        effects.push(Effect::Kept {
+            appended: 1,
+            head: leader.head(),
+        })?;
+        Ok((
+            World {
+                leader,
+                arrivals,
                 origins,
             },
             effects,
