@@ -1,0 +1,12 @@
+pub mod AdvanceLemmas
+pub mod Batches
+pub mod Cuts
+pub mod Entries
+pub mod Idle
+pub mod MovingLemmas
+pub mod Planning
+pub mod RecoverLemmas
+pub mod Rows
+pub mod Smalls
+pub mod Stepping
+pub mod Swapped

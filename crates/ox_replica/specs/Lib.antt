@@ -1,0 +1,15 @@
+pub mod Advance
+pub mod Client
+pub mod Cutting
+pub mod Inputs
+pub mod Keeping
+pub mod Kept
+pub mod Moving
+pub mod Plans
+pub mod Recovered
+pub mod Sound
+pub mod State
+pub mod Step
+pub mod Term
+pub mod Tick
+pub mod Worked

@@ -1,0 +1,5 @@
+//! Tests of a replica on disks in memory.
+#![tactic(auto)]
+
+#[cfg(test)]
+mod tests;
