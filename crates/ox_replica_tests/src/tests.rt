@@ -1,4 +1,5 @@
-ghost use Rattle.std.specs.Prelude.{◌≤◌, ◌^◌};
+ghost use Rattle.std.specs.Prelude.{◌≤◌, ◌^◌, IfOk};
+ghost use Rattle.ox_replica.specs.Inputs.{IsInput};
 
 use ox_machine::Register;
 use ox_memory::{Image, MemoryDisk};
@@ -60,7 +61,9 @@ fn become_leader(alloc: Global, node: &mut Node, term: u64) -> Result<Output, Fa
 }
 
 // A write that stores a number, as a client's request.
-fn store(alloc: Global, tag: u64, to: u8) -> Result<Input, Fail> {
+fn store(alloc: Global, tag: u64, to: u8) -> Result<Input, Fail>
+    ensures { IfOk result (λ input. IsInput input) }
+{
     Ok(Input::Client {
         tag,
         write: true,
@@ -69,7 +72,9 @@ fn store(alloc: Global, tag: u64, to: u8) -> Result<Input, Fail> {
 }
 
 // A read, as a client's request.
-fn ask(alloc: Global, tag: u64) -> Result<Input, Fail> {
+fn ask(alloc: Global, tag: u64) -> Result<Input, Fail>
+    ensures { IfOk result (λ input. IsInput input) }
+{
     Ok(Input::Client {
         tag,
         write: false,
