@@ -12,4 +12,5 @@ pub mod State
 pub mod Step
 pub mod Term
 pub mod Tick
+pub mod Due
 pub mod Worked

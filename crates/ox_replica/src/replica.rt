@@ -13,6 +13,7 @@ ghost use Rattle.ox_replica.specs.declared.output.HandleFault.TheVariants as fau
 ghost use Rattle.ox_replica.specs.declared.output.Cut.TheVariants as cut_is;
 ghost use Rattle.ox_replica.specs.declared.output.Output.{Output as Outputs};
 ghost use Rattle.ox_replica.specs.Cutting.{cut_step, disk_behind};
+ghost use Rattle.ox_replica.specs.Due.{due_at};
 ghost use Rattle.ox_replica.specs.Recovered.{is_usable, recovered};
 ghost use Rattle.ox_replica.specs.Inputs.{IsInput};
 ghost use Rattle.ox_replica.specs.Sound.{IsKept, LeavesEither};
@@ -24,6 +25,7 @@ use crate::live::Live;
 use crate::output::{Cut, HandleFault, Output};
 use crate::recover::recover_at;
 use crate::step::{cut_at, handle_at, view_at};
+use ox_bytes::TIME_LIMIT;
 use ox_machine::Machine;
 use ox_outside::Disk;
 use ox_types::{Entry, Head, LogView, NoMemory, NodeId};
@@ -83,10 +85,21 @@ impl<M: Machine, D: Disk> Replica<M, D> {
         self.live.leading.is_some()
     }
 
+    /// The id of the timer that has run out where the clock comes to this time (ms), if one has. It goes once through the timers.
+    pub fn due(&self, ms: u64) -> Option<u64>
+        ensures { result ≡ due_at self.now.live ms }
+    {
+        match &self.live.leading {
+            None => None,
+            Some(leading) => leading.timers.due(self.live.now.max(ms.min(TIME_LIMIT))),
+        }
+    }
+
     /// The two disks again, the first half's first. Nothing is written.
     pub fn close(self) -> (D, D)
         ensures zero { self.half ≡ 0 → (result.0 ≡ self.journal) × (result.1 ≡ self.spare) }
         ensures one { self.half ≡ 1 → (result.0 ≡ self.spare) × (result.1 ≡ self.journal) }
+        ensures either { ((result.0 ≡ self.journal) × (result.1 ≡ self.spare)) ⊎ ((result.0 ≡ self.spare) × (result.1 ≡ self.journal)) }
     {
         let Replica { wal, .. } = self;
         wal.close()

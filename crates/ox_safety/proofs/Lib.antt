@@ -1,0 +1,14 @@
+pub mod ListLemmas
+pub mod RunningLemmas
+pub mod StepLemmas
+pub mod LoneLemmas
+pub mod EventLemmas
+pub mod SoundLemmas
+pub mod MomentLemmas
+pub mod AnswerLemmas
+pub mod LegalLemmas
+pub mod TimerLemmas
+pub mod CauseLemmas
+pub mod SeatLemmas
+pub mod RunLemmas
+pub mod NoticeLemmas

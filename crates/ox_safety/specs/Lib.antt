@@ -1,0 +1,10 @@
+pub mod Event
+pub mod World
+pub mod Run
+pub mod Origins
+pub mod Moments
+pub mod Expiry
+pub mod Refusals
+pub mod Notices
+pub mod Legal
+pub mod Shard
