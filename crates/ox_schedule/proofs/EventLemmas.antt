@@ -1,303 +1,214 @@
 -- An event that is read is the one that was written, and the other way round.
-use Rattle.std.proofs.Common.{◌≡◌, ◌∙◌, ℕ, suc, ◌++◌, Bool, true, ◌&&◌, leb, cond, List, [], ◌∷◌, length, map, codes, decimal, Option, Some, None, Ok, Err, inl, inr, refl, ap, subst, arith}
+use Rattle.std.proofs.Common.{◌≡◌, ◌∙◌, ℕ, true, ◌&&◌, cond, List, [], ◌∷◌, codes, decimal, Ok, Err, inl, inr, refl, ap, subst}
 use Rattle.std.specs.Str.{bytes_eq}
-use Rattle.std.specs.List.{list_all}
-use Rattle.std.proofs.lemmas.List.Folds.{list_all-append}
-use Rattle.std.proofs.lemmas.Bool.Decides.{nat_tests}
 use Rattle.ox_types.specs.declared.ended.LineRule.TheVariants as rule
-use Rattle.ox_order.specs.declared.range.KeyRange.{KeyRange}
-use Rattle.ox_ops.specs.declared.write.Expect.{Expect}
-use Rattle.ox_ops.specs.declared.write.Expect.TheVariants.{Any, Absent, Exactly}
-use Rattle.ox_ops.specs.declared.write.Put.{Put}
-use Rattle.ox_ops.specs.declared.write.Delete.{Delete}
-use Rattle.ox_ops.specs.declared.write.WriteBatch.{WriteBatch}
-use Rattle.ox_ops.specs.declared.write.ShardCommand.TheVariants as command
-use Rattle.ox_ops.specs.declared.query.Compare.{Compare}
-use Rattle.ox_ops.specs.declared.query.Compare.TheVariants.{Equal, Floor, Ceiling, Lower, Higher}
-use Rattle.ox_ops.specs.declared.query.ShardQuery.TheVariants as query
-use Rattle.ox_schedule.specs.declared.schedule.Grouping.TheVariants as grouping
-use Rattle.ox_schedule.specs.declared.schedule.Request.{Request}
-use Rattle.ox_schedule.specs.declared.schedule.Request.TheVariants.{Write, Read}
+use Rattle.ox_schedule.specs.declared.schedule.Image.{Image}
+use Rattle.ox_schedule.specs.declared.schedule.Image.TheVariants as image
+use Rattle.ox_schedule.specs.declared.schedule.Turn.TheVariants.{Client, Deliver, Tick}
 use Rattle.ox_schedule.specs.declared.schedule.Event.{Event}
-use Rattle.ox_schedule.specs.declared.schedule.Event.TheVariants.{Client, Tick}
+use Rattle.ox_schedule.specs.declared.schedule.Event.TheVariants as event
 use Rattle.ox_schedule.specs.declared.schedule.Places.{Places}
 use Rattle.ox_schedule.specs.Outcome.{◌>>=◌}
-use Rattle.ox_schedule.specs.Shape.{op_fits, write_fits, get_fits, range_fits, single_fits, request_fits, event_fits, is_compare}
-use Rattle.ox_schedule.specs.Spelling.{is_number, is_node, is_shard, is_put, is_delete, is_range, is_request, is_event, put_op, delete_op, range_op, batch_ops, joined, are_lawful, spelt, range_words, by_words, put_options, expect_words, compare_word, request_words, event_words}
-use Rattle.ox_schedule.specs.Reading.{word_at, number_of, empty_batch, with_put, with_delete, with_range, op_onto, alone_of, request_of, node_at, shard_at, client_of, tick_of, event_of}
-use Rattle.ox_schedule.proofs.Words.{both, two, number_is, number_again}
-use Rattle.ox_schedule.proofs.Steps.{bind_ok, chosen, word_is}
-use Rattle.ox_schedule.proofs.Fields.{put_again, delete_again, range_again, ends_is, ends_again, get_is, get_again, single_is, single_again, notices_is, notices_again}
-use Rattle.ox_schedule.proofs.BatchLemmas.{verb_is, batch_is, batch_again, batch_split, alone_is, alone_cases}
+use Rattle.ox_schedule.specs.Shape.{event_fits, is_image}
+use Rattle.ox_schedule.specs.Spelling.{is_number, is_call, is_term, names_node, is_seat, is_event, image_word, turn_words, event_words}
+use Rattle.ox_schedule.specs.Reading.{word_at, number_of, single_of, call_at, image_of, cut_of, node_of, term_of, seat_of, event_of}
+use Rattle.ox_schedule.proofs.Words.{both, two, same_bytes, number_is, number_again}
+use Rattle.ox_schedule.proofs.Steps.{bind_ok, chosen, then, word_is, options_end_is}
+use Rattle.ox_schedule.proofs.Fields.{single_is, single_again}
+use Rattle.ox_schedule.proofs.BatchLemmas.{verb_is}
+use Rattle.ox_schedule.proofs.TurnLemmas.{node_is, shard_is, node_again, shard_again, turn_found, turn_again, turn_has_shape}
 
--- ---- requests
+-- ---- cuts
 
-abbrev IsRead : List (List ℕ) → Request → Type 0
-IsRead ws r = (ws ≡ request_words r) × (is_request r ≡ true)
+pub call_is : (ws : List (List ℕ)) (x : ℕ × List (List ℕ)) → call_at ws ≡ Ok x → (ws ≡ decimal x.0 ∷ x.1) × (is_number x.0 ≡ true) × (is_call x.0 ≡ true)
+unfolding call_at
+call_is ws x h =
+    let w = bind_ok (word_at ws) (λ w. number_of w.0 >>= λ n. cond (is_call n) (Ok (n, w.1)) (Err rule.Number)) x h in
+    let n = bind_ok (number_of w.0.0) (λ n. cond (is_call n) (Ok (n, w.0.1)) (Err rule.Number)) x w.2 in
+    elim (chosen (is_call n.0) (Ok (n.0, w.0.1)) (Err rule.Number) (Ok x) n.2) [
+      | inl y ↦
+          let it : (n.0, w.0.1) ≡ x = cc (y.1) in
+          let s = number_is w.0.0 n.0 n.1 in
+          subst (λ (q : ℕ × List (List ℕ)). (ws ≡ decimal q.0 ∷ q.1) × (is_number q.0 ≡ true) × (is_call q.0 ≡ true)) it (word_is ws w.0 w.1 ∙ ap (λ (v : List ℕ). v ∷ w.0.1) s.0, s.1, y.0)
+      | inr y ↦ absurd (cc (y.1))
+    ]
 
-others_is : (ws : List (List ℕ)) (r : Request) → alone_of ws ≡ Ok r → (ws ≡ request_words r) × (is_request r ≡ true)
-unfolding alone_of
-others_is ws r h =
-    let w = bind_ok _ _ _ h in
-    let word = word_is ws w.0 w.1 in
-    elim (chosen (bytes_eq w.0.0 (codes "notices")) _ _ _ w.2) [
-      | inl x ↦
-          let p = bind_ok _ _ _ x.1 in
-          let it : Read p.0 ≡ r = cc (p.2) in
-          let s = notices_is w.0.1 p.0 p.1 in
-          subst (λ (q : Request). IsRead ws q) it (verb_is ws w.0.0 _ w.0.1 _ word x.0 refl ∙ s.0, s.1)
-      | inr x ↦ elim (chosen (bytes_eq w.0.0 (codes "open")) _ _ _ x.1) [
-        | inl x ↦
-            let p = bind_ok _ _ _ x.1 in
-            let it : Write grouping.Alone (command.Open p.0) ≡ r = cc (p.2) in
-            let s = single_is w.0.1 p.0 p.1 in
-            subst (λ (q : Request). IsRead ws q) it (verb_is ws w.0.0 _ w.0.1 _ word x.0 s.0, two true _ refl s.1)
-        | inr x ↦ elim (chosen (bytes_eq w.0.0 (codes "close")) _ _ _ x.1) [
-          | inl x ↦
-              let p = bind_ok _ _ _ x.1 in
-              let it : Write grouping.Alone (command.Close p.0) ≡ r = cc (p.2) in
-              let s = single_is w.0.1 p.0 p.1 in
-              subst (λ (q : Request). IsRead ws q) it (verb_is ws w.0.0 _ w.0.1 _ word x.0 s.0, two true _ refl s.1)
-          | inr x ↦ elim (chosen (bytes_eq w.0.0 (codes "keep")) _ _ _ x.1) [
-            | inl x ↦
-                let p = bind_ok _ _ _ x.1 in
-                let it : Read (query.KeepAlive p.0) ≡ r = cc (p.2) in
-                let s = single_is w.0.1 p.0 p.1 in
-                subst (λ (q : Request). IsRead ws q) it (verb_is ws w.0.0 _ w.0.1 _ word x.0 s.0, s.1)
-            | inr x ↦
-                let p = bind_ok _ _ _ x.1 in
-                let it : Write grouping.Alone (command.Write p.0) ≡ r = cc (p.2) in
-                subst (λ (q : Request). IsRead ws q) it (alone_is ws p.0 p.1)
-          ]
+call_again : (n : ℕ) (ws : List (List ℕ)) → is_number n && is_call n ≡ true → call_at (decimal n ∷ ws) ≡ Ok (n, ws)
+unfolding call_at
+call_again n ws h = let x = both (is_number n) (is_call n) h in rw (number_again n x.0, x.1) refl
+
+image_is : (w : List ℕ) (i : Image) → image_of w ≡ Ok i → w ≡ image_word i
+unfolding image_of
+image_is w i h =
+    elim (chosen (bytes_eq w (codes "none")) _ _ _ h) [
+      | inl x ↦ let it : image.Nothing ≡ i = cc (x.1) in same_bytes w _ x.0 ∙ ap image_word it
+      | inr x ↦ elim (chosen (bytes_eq w (codes "kept")) _ _ _ x.1) [
+        | inl x ↦ let it : image.Kept ≡ i = cc (x.1) in same_bytes w _ x.0 ∙ ap image_word it
+        | inr x ↦ elim (chosen (bytes_eq w (codes "torn")) _ _ _ x.1) [
+          | inl x ↦ let it : image.Torn ≡ i = cc (x.1) in same_bytes w _ x.0 ∙ ap image_word it
+          | inr x ↦ absurd (cc (x.1))
         ]
       ]
     ]
 
-pub request_is : (ws : List (List ℕ)) (r : Request) → request_of ws ≡ Ok r → (ws ≡ request_words r) × (is_request r ≡ true)
-unfolding request_of
-request_is ws r h =
-    let w = bind_ok _ _ _ h in
-    let word = word_is ws w.0 w.1 in
-    elim (chosen (bytes_eq w.0.0 (codes "batch")) _ _ _ w.2) [
-      | inl x ↦
-          let p = bind_ok _ _ _ x.1 in
-          let it : Write grouping.Batch (command.Write p.0) ≡ r = cc (p.2) in
-          let s = batch_is w.0.1 p.0 p.1 in
-          subst (λ (q : Request). IsRead ws q) it (verb_is ws w.0.0 _ w.0.1 _ word x.0 s.0, s.1)
-      | inr x ↦ elim (chosen (bytes_eq w.0.0 (codes "get")) _ _ _ x.1) [
-        | inl x ↦
-            let p = bind_ok _ _ _ x.1 in
-            let it : Read p.0 ≡ r = cc (p.2) in
-            let s = get_is w.0.1 p.0 p.1 in
-            subst (λ (q : Request). IsRead ws q) it (verb_is ws w.0.0 _ w.0.1 _ word x.0 refl ∙ s.0, s.1)
-        | inr x ↦ elim (chosen (bytes_eq w.0.0 (codes "list")) _ _ _ x.1) [
-          | inl x ↦
-              let p = bind_ok _ _ _ x.1 in
-              let it : Read (query.List p.0.0 p.0.1) ≡ r = cc (p.2) in
-              let s = ends_is w.0.1 p.0 p.1 in
-              subst (λ (q : Request). IsRead ws q) it (verb_is ws w.0.0 _ w.0.1 _ word x.0 s.0, s.1)
-          | inr x ↦ elim (chosen (bytes_eq w.0.0 (codes "scan")) _ _ _ x.1) [
-            | inl x ↦
-                let p = bind_ok _ _ _ x.1 in
-                let it : Read (query.Scan p.0.0 p.0.1) ≡ r = cc (p.2) in
-                let s = ends_is w.0.1 p.0 p.1 in
-                subst (λ (q : Request). IsRead ws q) it (verb_is ws w.0.0 _ w.0.1 _ word x.0 s.0, s.1)
-            | inr x ↦ others_is ws r x.1
-          ]
-        ]
-      ]
-    ]
+image_again : (i : Image) → image_of (image_word i) ≡ Ok i
+unfolding image_of
+image_again image.Nothing = refl
+image_again image.Kept = refl
+image_again image.Torn = refl
 
-abbrev IsReadAlone : WriteBatch → Type 0
-IsReadAlone b = request_of (joined (batch_ops b)) ≡ Ok (Write grouping.Alone (command.Write b))
+abbrev IsSpelt : Places → List (List ℕ) → Event → Type 0
+IsSpelt places ws e = (ws ≡ event_words e) × (is_event places e ≡ true)
 
-alone_put : (p : Put) → is_put p ≡ true → IsReadAlone (with_put empty_batch p)
-unfolding request_of alone_of op_onto
-alone_put p h = rw (put_again p h) refl
+cut_is : (places : Places) (ws : List (List ℕ)) (e : Event) → cut_of places ws ≡ Ok e → IsSpelt places (codes "cut" ∷ ws) e
+unfolding cut_of
+cut_is places ws e h =
+    let c = bind_ok _ _ _ h in
+    let w = bind_ok _ _ _ c.2 in
+    let i = bind_ok _ _ _ w.2 in
+    let t = bind_ok _ _ _ i.2 in
+    let call = call_is ws c.0 c.1 in
+    let left = image_is w.0.0 i.0 i.1 in
+    let taken = turn_found places w.0.1 t.0 t.1 in
+    let it : event.Cut c.0.0 i.0 t.0 ≡ e = cc (t.2) in
+    let words : ws ≡ decimal c.0.0 ∷ image_word i.0 ∷ turn_words t.0 = then ws _ _ _ call.0 (then c.0.1 _ _ _ (word_is c.0.1 w.0 w.1 ∙ ap (λ (v : List ℕ). v ∷ w.0.1) left) taken.0) in
+    subst (λ (q : Event). IsSpelt places (codes "cut" ∷ ws) q) it
+    (ap (λ (t : List (List ℕ)). codes "cut" ∷ t) words, two _ _ (two _ _ call.1 call.2) taken.1)
 
-alone_delete : (d : Delete) → is_delete d ≡ true → IsReadAlone (with_delete empty_batch d)
-unfolding request_of alone_of op_onto
-alone_delete d h = rw (delete_again d h) refl
+-- ---- nodes and terms
 
-alone_range : (r : KeyRange) → is_range r ≡ true → IsReadAlone (with_range empty_batch r)
-unfolding request_of alone_of op_onto
-alone_range r h = rw (range_again r h) refl
+node_of_is : (places : Places) (ws : List (List ℕ)) (n : ℕ) → node_of places ws ≡ Ok n → (ws ≡ decimal n ∷ []) × (names_node places n ≡ true)
+unfolding node_of
+node_of_is places ws n h =
+    let a = bind_ok _ _ _ h in
+    let e = bind_ok _ _ _ a.2 in
+    let node = node_is places ws a.0 a.1 in
+    let end : a.0.1 ≡ [] = options_end_is a.0.1 e.0 e.1 in
+    let it : a.0.0 ≡ n = cc (e.2) in
+    (rw (← it) (then ws _ _ _ node.0 end), rw (← it) (two _ _ node.1 node.2))
 
-pub request_again : (r : Request) → is_request r ≡ true → request_of (request_words r) ≡ Ok r
-unfolding request_of alone_of
-request_again (Write grouping.Alone (command.Write b)) h = let x = both (are_lawful b) _ h in alone_cases IsReadAlone alone_put alone_delete alone_range b x.0 x.1
-request_again (Write grouping.Batch (command.Write b)) h = let x = both (are_lawful b) _ h in rw (batch_again b x.0 x.1) refl
-request_again (Write grouping.Alone (command.Open n)) h = rw (single_again n h) refl
-request_again (Write grouping.Alone (command.Close n)) h = rw (single_again n h) refl
-request_again (Write grouping.Batch (command.Open n)) h = absurd cc
-request_again (Write grouping.Batch (command.Close n)) h = absurd cc
-request_again (Write g (command.Expire n)) h = absurd cc
-request_again (Read (query.Get c key by)) h = rw (get_again c key by h) refl
-request_again (Read (query.List r by)) h = rw (ends_again r by h) refl
-request_again (Read (query.Scan r by)) h = rw (ends_again r by h) refl
-request_again (Read (query.Notices past skip)) h = rw (notices_again past skip h) refl
-request_again (Read (query.KeepAlive n)) h = rw (single_again n h) refl
+node_of_again : (places : Places) (n : ℕ) → names_node places n ≡ true → node_of places (decimal n ∷ []) ≡ Ok n
+unfolding node_of
+node_of_again places n h = rw (node_again places n [] h) refl
 
--- ---- events
-
-pub node_is : (places : Places) (ws : List (List ℕ)) (x : ℕ × List (List ℕ)) → node_at places ws ≡ Ok x → (ws ≡ decimal x.0 ∷ x.1) × (is_number x.0 ≡ true) × (is_node places x.0 ≡ true)
-unfolding node_at
-node_is places ws x h =
-    let w = bind_ok (word_at ws) (λ w. number_of w.0 >>= λ n. cond (is_node places n) (Ok (n, w.1)) (Err rule.Name)) x h in
-    let n = bind_ok (number_of w.0.0) (λ n. cond (is_node places n) (Ok (n, w.0.1)) (Err rule.Name)) x w.2 in
-    elim (chosen (is_node places n.0) (Ok (n.0, w.0.1)) (Err rule.Name) (Ok x) n.2) [
+term_is : (ws : List (List ℕ)) (n : ℕ) → term_of ws ≡ Ok n → (ws ≡ decimal n ∷ []) × (is_number n && is_term n ≡ true)
+unfolding term_of
+term_is ws n h =
+    let a = bind_ok (single_of ws) (λ n. cond (is_term n) (Ok n) (Err rule.Number)) n h in
+    elim (chosen (is_term a.0) (Ok a.0) (Err rule.Number) (Ok n) a.2) [
       | inl y ↦
-          let it : (n.0, w.0.1) ≡ x = cc (y.1) in
-          let s = number_is w.0.0 n.0 n.1 in
-          subst (λ (q : ℕ × List (List ℕ)). (ws ≡ decimal q.0 ∷ q.1) × (is_number q.0 ≡ true) × (is_node places q.0 ≡ true)) it (word_is ws w.0 w.1 ∙ ap (λ (v : List ℕ). v ∷ w.0.1) s.0, s.1, y.0)
+          let it : a.0 ≡ n = cc (y.1) in
+          let s = single_is ws a.0 a.1 in
+          subst (λ (q : ℕ). (ws ≡ decimal q ∷ []) × (is_number q && is_term q ≡ true)) it (s.0, two _ _ s.1 y.0)
       | inr y ↦ absurd (cc (y.1))
     ]
 
-pub shard_is : (places : Places) (ws : List (List ℕ)) (x : ℕ × List (List ℕ)) → shard_at places ws ≡ Ok x → (ws ≡ decimal x.0 ∷ x.1) × (is_number x.0 ≡ true) × (is_shard places x.0 ≡ true)
-unfolding shard_at
-shard_is places ws x h =
-    let w = bind_ok (word_at ws) (λ w. number_of w.0 >>= λ n. cond (is_shard places n) (Ok (n, w.1)) (Err rule.Name)) x h in
-    let n = bind_ok (number_of w.0.0) (λ n. cond (is_shard places n) (Ok (n, w.0.1)) (Err rule.Name)) x w.2 in
-    elim (chosen (is_shard places n.0) (Ok (n.0, w.0.1)) (Err rule.Name) (Ok x) n.2) [
-      | inl y ↦
-          let it : (n.0, w.0.1) ≡ x = cc (y.1) in
-          let s = number_is w.0.0 n.0 n.1 in
-          subst (λ (q : ℕ × List (List ℕ)). (ws ≡ decimal q.0 ∷ q.1) × (is_number q.0 ≡ true) × (is_shard places q.0 ≡ true)) it (word_is ws w.0 w.1 ∙ ap (λ (v : List ℕ). v ∷ w.0.1) s.0, s.1, y.0)
-      | inr y ↦ absurd (cc (y.1))
-    ]
+term_again : (n : ℕ) → is_number n && is_term n ≡ true → term_of (decimal n ∷ []) ≡ Ok n
+unfolding term_of
+term_again n h = let x = both (is_number n) (is_term n) h in rw (single_again n x.0, x.1) refl
 
-client_is : (places : Places) (ws : List (List ℕ)) (e : Event) → client_of places ws ≡ Ok e → (codes "client" ∷ ws ≡ event_words e) × (is_event places e ≡ true)
-unfolding client_of
-client_is places ws e h =
-    let n = bind_ok _ _ _ h in
-    let s = bind_ok _ _ _ n.2 in
-    let r = bind_ok _ _ _ s.2 in
-    let node = node_is places ws n.0 n.1 in
-    let shard = shard_is places n.0.1 s.0 s.1 in
-    let asked = request_is s.0.1 r.0 r.1 in
-    let it : Client n.0.0 s.0.0 r.0 ≡ e = cc (r.2) in
-    let words : ws ≡ decimal n.0.0 ∷ decimal s.0.0 ∷ request_words r.0 = node.0 ∙ ap (λ (t : List (List ℕ)). decimal n.0.0 ∷ t) (shard.0 ∙ ap (λ (t : List (List ℕ)). decimal s.0.0 ∷ t) asked.0) in
-    subst (λ (q : Event). (codes "client" ∷ ws ≡ event_words q) × (is_event places q ≡ true)) it
-    (ap (λ (t : List (List ℕ)). codes "client" ∷ t) words, two _ _ (two _ _ (two _ _ (two _ _ node.1 node.2) shard.1) shard.2) asked.1)
-
-tick_is : (places : Places) (ws : List (List ℕ)) (e : Event) → tick_of places ws ≡ Ok e → (codes "tick" ∷ ws ≡ event_words e) × (is_event places e ≡ true)
-unfolding tick_of
-tick_is places ws e h =
+seat_is : (places : Places) (ws : List (List ℕ)) (x : ℕ × ℕ × ℕ) → seat_of places ws ≡ Ok x → (ws ≡ decimal x.0 ∷ decimal x.1 ∷ decimal x.2 ∷ []) × (is_seat places x.0 x.1 x.2 ≡ true)
+unfolding seat_of
+seat_is places ws x h =
     let n = bind_ok _ _ _ h in
     let s = bind_ok _ _ _ n.2 in
     let t = bind_ok _ _ _ s.2 in
     let node = node_is places ws n.0 n.1 in
     let shard = shard_is places n.0.1 s.0 s.1 in
-    let time = single_is s.0.1 t.0 t.1 in
-    let it : Tick n.0.0 s.0.0 t.0 ≡ e = cc (t.2) in
-    let words : ws ≡ decimal n.0.0 ∷ decimal s.0.0 ∷ decimal t.0 ∷ [] = node.0 ∙ ap (λ (t : List (List ℕ)). decimal n.0.0 ∷ t) (shard.0 ∙ ap (λ (t : List (List ℕ)). decimal s.0.0 ∷ t) time.0) in
-    subst (λ (q : Event). (codes "tick" ∷ ws ≡ event_words q) × (is_event places q ≡ true)) it
-    (ap (λ (t : List (List ℕ)). codes "tick" ∷ t) words, two _ _ (two _ _ (two _ _ (two _ _ node.1 node.2) shard.1) shard.2) time.1)
+    let term = term_is s.0.1 t.0 t.1 in
+    let it : (n.0.0, s.0.0, t.0) ≡ x = cc (t.2) in
+    let words : ws ≡ decimal n.0.0 ∷ decimal s.0.0 ∷ decimal t.0 ∷ [] = then ws _ _ _ node.0 (then n.0.1 _ _ _ shard.0 term.0) in
+    subst (λ (q : ℕ × ℕ × ℕ). (ws ≡ decimal q.0 ∷ decimal q.1 ∷ decimal q.2 ∷ []) × (is_seat places q.0 q.1 q.2 ≡ true)) it
+    (words, two _ _ (two _ _ (two _ _ node.1 node.2) (two _ _ shard.1 shard.2)) term.1)
+
+seat_again : (places : Places) (node shard term : ℕ) → is_seat places node shard term ≡ true → seat_of places (decimal node ∷ decimal shard ∷ decimal term ∷ []) ≡ Ok (node, shard, term)
+unfolding seat_of
+seat_again places node shard term h =
+    let a = both _ _ h in
+    let b = both _ _ a.0 in
+    rw (node_again places node (decimal shard ∷ decimal term ∷ []) b.0, shard_again places shard (decimal term ∷ []) b.1, term_again term a.1) refl
+
+-- ---- events
 
 pub event_found : (places : Places) (ws : List (List ℕ)) (e : Event) → event_of places ws ≡ Ok e → (ws ≡ event_words e) × (is_event places e ≡ true)
 unfolding event_of
 event_found places ws e h =
-    let w = bind_ok (word_at ws) (λ w. cond (bytes_eq w.0 (codes "client")) (client_of places w.1) (cond (bytes_eq w.0 (codes "tick")) (tick_of places w.1) (Err rule.Word))) e h in
-    elim (chosen (bytes_eq w.0.0 (codes "client")) (client_of places w.0.1) (cond (bytes_eq w.0.0 (codes "tick")) (tick_of places w.0.1) (Err rule.Word)) (Ok e) w.2) [
+    let w = bind_ok _ _ _ h in
+    let word = word_is ws w.0 w.1 in
+    elim (chosen (bytes_eq w.0.0 (codes "cut")) _ _ _ w.2) [
       | inl x ↦
-          let c = client_is places w.0.1 e x.1 in
-          (verb_is ws w.0.0 _ w.0.1 _ (word_is ws w.0 w.1) x.0 refl ∙ c.0, c.1)
-      | inr x ↦ elim (chosen (bytes_eq w.0.0 (codes "tick")) (tick_of places w.0.1) (Err rule.Word) (Ok e) x.1) [
+          let c = cut_is places w.0.1 e x.1 in
+          (verb_is ws w.0.0 _ w.0.1 _ word x.0 refl ∙ c.0, c.1)
+      | inr x ↦ elim (chosen (bytes_eq w.0.0 (codes "stop")) _ _ _ x.1) [
         | inl x ↦
-            let c = tick_is places w.0.1 e x.1 in
-            (verb_is ws w.0.0 _ w.0.1 _ (word_is ws w.0 w.1) x.0 refl ∙ c.0, c.1)
-        | inr x ↦ absurd (cc (x.1))
+            let n = bind_ok _ _ _ x.1 in
+            let it : event.Stop n.0 ≡ e = cc (n.2) in
+            let s = node_of_is places w.0.1 n.0 n.1 in
+            subst (λ (q : Event). IsSpelt places ws q) it (verb_is ws w.0.0 _ w.0.1 _ word x.0 s.0, s.1)
+        | inr x ↦ elim (chosen (bytes_eq w.0.0 (codes "start")) _ _ _ x.1) [
+          | inl x ↦
+              let n = bind_ok _ _ _ x.1 in
+              let it : event.Start n.0 ≡ e = cc (n.2) in
+              let s = node_of_is places w.0.1 n.0 n.1 in
+              subst (λ (q : Event). IsSpelt places ws q) it (verb_is ws w.0.0 _ w.0.1 _ word x.0 s.0, s.1)
+          | inr x ↦ elim (chosen (bytes_eq w.0.0 (codes "lose")) _ _ _ x.1) [
+            | inl x ↦
+                let n = bind_ok _ _ _ x.1 in
+                let it : event.Lose n.0 ≡ e = cc (n.2) in
+                let s = node_of_is places w.0.1 n.0 n.1 in
+                subst (λ (q : Event). IsSpelt places ws q) it (verb_is ws w.0.0 _ w.0.1 _ word x.0 s.0, s.1)
+            | inr x ↦ elim (chosen (bytes_eq w.0.0 (codes "fence")) _ _ _ x.1) [
+              | inl x ↦
+                  let n = bind_ok _ _ _ x.1 in
+                  let it : event.Fence n.0.0 n.0.1 n.0.2 ≡ e = cc (n.2) in
+                  let s = seat_is places w.0.1 n.0 n.1 in
+                  subst (λ (q : Event). IsSpelt places ws q) it (verb_is ws w.0.0 _ w.0.1 _ word x.0 s.0, s.1)
+              | inr x ↦ elim (chosen (bytes_eq w.0.0 (codes "lead")) _ _ _ x.1) [
+                | inl x ↦
+                    let n = bind_ok _ _ _ x.1 in
+                    let it : event.Lead n.0.0 n.0.1 n.0.2 ≡ e = cc (n.2) in
+                    let s = seat_is places w.0.1 n.0 n.1 in
+                    subst (λ (q : Event). IsSpelt places ws q) it (verb_is ws w.0.0 _ w.0.1 _ word x.0 s.0, s.1)
+                | inr x ↦
+                    let t = bind_ok _ _ _ x.1 in
+                    let it : event.Takes t.0 ≡ e = cc (t.2) in
+                    subst (λ (q : Event). IsSpelt places ws q) it (turn_found places ws t.0 t.1)
+              ]
+            ]
+          ]
+        ]
       ]
     ]
 
 pub event_again : (places : Places) (e : Event) → is_event places e ≡ true → event_of places (event_words e) ≡ Ok e
-unfolding event_of client_of tick_of node_at shard_at
-event_again places (Client node shard r) h =
-    let a = both _ _ h in
-    let b = both _ _ a.0 in
-    let c = both _ _ b.0 in
-    let d = both _ _ c.0 in
-    rw (number_again node d.0, d.1, number_again shard c.1, b.1, request_again r a.1) refl
-event_again places (Tick node shard ms) h =
-    let a = both _ _ h in
-    let b = both _ _ a.0 in
-    let c = both _ _ b.0 in
-    let d = both _ _ c.0 in
-    rw (number_again node d.0, d.1, number_again shard c.1, b.1, single_again ms a.1) refl
+unfolding event_of cut_of
+event_again places (event.Takes (Client node shard r)) h = rw (turn_again places (Client node shard r) h) refl
+event_again places (event.Takes (Deliver message)) h = rw (turn_again places (Deliver message) h) refl
+event_again places (event.Takes (Tick node shard ms)) h = rw (turn_again places (Tick node shard ms) h) refl
+event_again places (event.Cut call i t) h =
+    let x = both _ _ h in
+    rw (call_again call (image_word i ∷ turn_words t) x.0, image_again i, turn_again places t x.1) refl
+event_again places (event.Stop node) h = rw (node_of_again places node h) refl
+event_again places (event.Start node) h = rw (node_of_again places node h) refl
+event_again places (event.Lose node) h = rw (node_of_again places node h) refl
+event_again places (event.Fence node shard term) h = rw (seat_again places node shard term h) refl
+event_again places (event.Lead node shard term) h = rw (seat_again places node shard term h) refl
 
 -- ---- their shape
 
-put_fits : (p : Put) → op_fits (put_op p) ≡ true
-unfolding write_fits
-put_fits p = two_more (length (put_options p))
-  where
-    two_more : (n : ℕ) → leb 2 (suc (suc n)) ≡ true
-    two_more n = grind (arith, nat_tests)
-
-delete_fits : (d : Delete) → op_fits (delete_op d) ≡ true
-unfolding write_fits
-delete_fits d = by_expect d.expect
-  where
-    by_expect : (e : Expect) → leb 1 (suc (length (expect_words e))) && leb (suc (length (expect_words e))) 2 ≡ true
-    by_expect Any = refl
-    by_expect Absent = refl
-    by_expect (Exactly n) = refl
-
-range_op_fits : (r : KeyRange) → op_fits (range_op r) ≡ true
-unfolding write_fits
-range_op_fits r = refl
-
-all_map : {A B : Type 0} (f : B → Bool) (g : A → B) (xs : List A) → ((x : A) → f (g x) ≡ true) → list_all f (map g xs) ≡ true
-all_map f g [] h = refl
-all_map f g (x ∷ xs) h = rw (h x, all_map f g xs h) refl
-
-batch_fits : (b : WriteBatch) → list_all op_fits (batch_ops b) ≡ true
-batch_fits b = rw (list_all-append op_fits (map put_op b.puts ++ map delete_op b.deletes) (map range_op b.ranges), list_all-append op_fits (map put_op b.puts) (map delete_op b.deletes), all_map op_fits put_op b.puts put_fits, all_map op_fits delete_op b.deletes delete_fits, all_map op_fits range_op b.ranges range_op_fits) refl
-
-compare_fits : (c : Compare) → is_compare (compare_word c) ≡ true
-compare_fits Equal = refl
-compare_fits Floor = refl
-compare_fits Ceiling = refl
-compare_fits Lower = refl
-compare_fits Higher = refl
-
-get_has_shape : (c : Compare) (key : List ℕ) (by : Option (List ℕ)) → get_fits (compare_word c ∷ spelt key ∷ by_words by) ≡ true
-get_has_shape c key None = rw (compare_fits c) refl
-get_has_shape c key (Some name) = rw (compare_fits c) refl
-
-ends_have_shape : (r : KeyRange) (by : Option (List ℕ)) → range_fits (length (range_words r ++ by_words by)) ≡ true
-ends_have_shape r None = refl
-ends_have_shape r (Some name) = refl
-
-abbrev FitsAlone : WriteBatch → Type 0
-FitsAlone b = request_fits (joined (batch_ops b)) ≡ true
-
-alone_put_fits : (p : Put) → is_put p ≡ true → FitsAlone (with_put empty_batch p)
-unfolding request_fits single_fits
-alone_put_fits p h = put_fits p
-
-alone_delete_fits : (d : Delete) → is_delete d ≡ true → FitsAlone (with_delete empty_batch d)
-unfolding request_fits single_fits
-alone_delete_fits d h = delete_fits d
-
-alone_range_fits : (r : KeyRange) → is_range r ≡ true → FitsAlone (with_range empty_batch r)
-unfolding request_fits single_fits
-alone_range_fits r h = range_op_fits r
-
-request_has_shape : (r : Request) → is_request r ≡ true → request_fits (request_words r) ≡ true
-unfolding request_fits single_fits
-request_has_shape (Write grouping.Alone (command.Write b)) h = let x = both (are_lawful b) _ h in alone_cases FitsAlone alone_put_fits alone_delete_fits alone_range_fits b x.0 x.1
-request_has_shape (Write grouping.Batch (command.Write b)) h = let x = both (are_lawful b) _ h in rw (batch_split b x.1) (batch_fits b)
-request_has_shape (Write g (command.Open n)) h = refl
-request_has_shape (Write g (command.Close n)) h = refl
-request_has_shape (Write g (command.Expire n)) h = absurd cc
-request_has_shape (Read (query.Get c key by)) h = get_has_shape c key by
-request_has_shape (Read (query.List r by)) h = ends_have_shape r by
-request_has_shape (Read (query.Scan r by)) h = ends_have_shape r by
-request_has_shape (Read (query.Notices past skip)) h = refl
-request_has_shape (Read (query.KeepAlive n)) h = refl
+image_has_shape : (i : Image) → is_image (image_word i) ≡ true
+image_has_shape image.Nothing = refl
+image_has_shape image.Kept = refl
+image_has_shape image.Torn = refl
 
 pub event_has_shape : (places : Places) (e : Event) → is_event places e ≡ true → event_fits (event_words e) ≡ true
 unfolding event_fits
-event_has_shape places (Client node shard r) h = let a = both _ _ h in request_has_shape r a.1
-event_has_shape places (Tick node shard ms) h = refl
+event_has_shape places (event.Takes (Client node shard r)) h = turn_has_shape places (Client node shard r) h
+event_has_shape places (event.Takes (Deliver message)) h = turn_has_shape places (Deliver message) h
+event_has_shape places (event.Takes (Tick node shard ms)) h = turn_has_shape places (Tick node shard ms) h
+event_has_shape places (event.Cut call i t) h = two _ _ (image_has_shape i) (turn_has_shape places t (both _ _ h).1)
+event_has_shape places (event.Stop node) h = refl
+event_has_shape places (event.Start node) h = refl
+event_has_shape places (event.Lose node) h = refl
+event_has_shape places (event.Fence node shard term) h = refl
+event_has_shape places (event.Lead node shard term) h = refl

@@ -1,5 +1,5 @@
 -- What a schedule asks has bytes in the grammar of commands and queries.
-use Rattle.std.proofs.Common.{◌≡◌, ◌<◌, ◌≤◌, ◌+◌, ◌^◌, ℕ, suc, Bool, true, false, ◌&&◌, eqb, leb, ltb, cond, List, [], ◌∷◌, ◌++◌, length, map, codes, decimal, Option, Some, None, ◌∙◌, refl, ap, subst, arith}
+use Rattle.std.proofs.Common.{◌≡◌, ◌<◌, ◌≤◌, ◌+◌, ◌^◌, ℕ, suc, Bool, true, false, ◌&&◌, eqb, leb, ltb, cond, List, [], ◌∷◌, ◌++◌, length, map, codes, decimal, Option, Some, None, ◌∙◌, refl, sym, ap, subst, arith}
 use Rattle.std.specs.Prelude.{is_none, nat_eq}
 use Rattle.std.specs.List.{list_all, onto_first, starts_with, join_with_byte}
 use Rattle.std.proofs.lemmas.Bool.{lt-ltb, le-leb, leb-true, ltb-false}
@@ -28,13 +28,16 @@ use Rattle.ox_bytes.specs.Fields as field
 use Rattle.ox_ops.specs.Forms as form
 use Rattle.ox_schedule.specs.declared.schedule.Grouping.{Grouping}
 use Rattle.ox_schedule.specs.declared.schedule.Request.TheVariants.{Write, Read}
+use Rattle.ox_schedule.specs.declared.schedule.Image.{Image}
+use Rattle.ox_schedule.specs.declared.schedule.Turn.{Turn}
+use Rattle.ox_schedule.specs.declared.schedule.Turn.TheVariants.{Client, Deliver, Tick}
 use Rattle.ox_schedule.specs.declared.schedule.Event.{Event}
-use Rattle.ox_schedule.specs.declared.schedule.Event.TheVariants.{Client, Tick}
+use Rattle.ox_schedule.specs.declared.schedule.Event.TheVariants as event
 use Rattle.ox_schedule.specs.declared.schedule.Places.{Places}
 use Rattle.ox_schedule.specs.declared.schedule.Schedule.{Schedule}
-use Rattle.ox_schedule.specs.Spelling.{is_key, is_value, is_byte, is_name, is_number, is_alone, is_expect, is_session, is_entry, is_by, value_word, spelt, expect_words, session_words, numbers_text, deltas_words, entry_word, put_options, is_lo, is_hi, is_range, is_put, is_delete, are_lawful, is_query, is_event, put_op, delete_op, range_op, batch_ops, joined, grouping_words, event_line}
+use Rattle.ox_schedule.specs.Spelling.{is_key, is_value, is_byte, is_name, is_number, is_alone, is_expect, is_session, is_entry, is_by, value_word, spelt, expect_words, session_words, numbers_text, deltas_words, entry_word, put_options, is_lo, is_hi, is_range, is_put, is_delete, are_lawful, is_query, is_turn, is_event, put_op, delete_op, range_op, batch_ops, joined, grouping_words, request_words, image_word, turn_words, event_line}
 use Rattle.ox_schedule.specs.Line.{spaced}
-use Rattle.ox_schedule.specs.Lawful.{asks_encodable}
+use Rattle.ox_schedule.specs.Lawful.{turn_encodable, asks_encodable}
 use Rattle.ox_schedule.specs.Schedule.{SpellsSchedule, lines_of, places_of, first_line}
 use Rattle.ox_schedule.proofs.Words.{both, two}
 use Rattle.ox_schedule.proofs.Fields.{put_parts}
@@ -187,21 +190,31 @@ joined_long [] = omega arith
 joined_long (op ∷ []) = omega arith
 joined_long (op ∷ next ∷ ops) = omega (arith, length-append op (codes "+" ∷ joined (next ∷ ops)), joined_long (next ∷ ops))
 
-write_long : (node shard : ℕ) (g : Grouping) (b : WriteBatch) → length (batch_ops b) ≤ length (event_line (Client node shard (Write g (command.Write b))))
-unfolding event_line
+write_long : (node shard : ℕ) (g : Grouping) (b : WriteBatch) → length (batch_ops b) < length (spaced (turn_words (Client node shard (Write g (command.Write b)))))
 write_long node shard g b =
     let ws : List (List ℕ) = grouping_words g ++ joined (batch_ops b) in
     let rest : List (List ℕ) = decimal node ∷ decimal shard ∷ ws in
-    let line = join_spaced (codes "client") rest in
-    omega (arith, ap length line, length-append (codes "client") (spaced rest), spaced_long rest, length-append (grouping_words g) (joined (batch_ops b)), joined_long (batch_ops b))
+    omega (arith, length-append (codes "client") (spaced rest), spaced_long rest, length-append (grouping_words g) (joined (batch_ops b)), joined_long (batch_ops b))
 
-write_size : (node shard : ℕ) (g : Grouping) (b : WriteBatch) → total (batch_ops b) ≤ length (event_line (Client node shard (Write g (command.Write b))))
-unfolding event_line
+write_size : (node shard : ℕ) (g : Grouping) (b : WriteBatch) → total (batch_ops b) < length (spaced (turn_words (Client node shard (Write g (command.Write b)))))
 write_size node shard g b =
     let ws : List (List ℕ) = grouping_words g ++ joined (batch_ops b) in
     let rest : List (List ℕ) = decimal node ∷ decimal shard ∷ ws in
-    let line = join_spaced (codes "client") rest in
-    omega (arith, ap length line, length-append (codes "client") (spaced rest), spaced_both (decimal node ∷ decimal shard ∷ []) ws, spaced_both (grouping_words g) (joined (batch_ops b)), total_joined (batch_ops b))
+    omega (arith, length-append (codes "client") (spaced rest), spaced_both (decimal node ∷ decimal shard ∷ []) ws, spaced_both (grouping_words g) (joined (batch_ops b)), total_joined (batch_ops b))
+
+-- the words of a line, each behind a space, are one byte more than the line
+line_size : (w : List ℕ) (ws : List (List ℕ)) → length (spaced (w ∷ ws)) ≡ suc (length (join_with_byte 32 (w ∷ ws)))
+line_size w ws = ap (λ (t : List ℕ). suc (length t)) (sym (join_spaced w ws))
+
+takes_size : (t : Turn) → length (spaced (turn_words t)) ≤ suc (length (event_line (event.Takes t)))
+unfolding event_line
+takes_size (Client node shard r) = omega (arith, line_size (codes "client") (decimal node ∷ decimal shard ∷ request_words r))
+takes_size (Deliver message) = omega (arith, line_size (codes "deliver") (decimal message ∷ []))
+takes_size (Tick node shard ms) = omega (arith, line_size (codes "tick") (decimal node ∷ decimal shard ∷ decimal ms ∷ []))
+
+cut_size : (call : ℕ) (i : Image) (t : Turn) → length (spaced (turn_words t)) ≤ suc (length (event_line (event.Cut call i t)))
+unfolding event_line
+cut_size call i t = omega (arith, line_size (codes "cut") (decimal call ∷ image_word i ∷ turn_words t), spaced_both (codes "cut" ∷ decimal call ∷ image_word i ∷ []) (turn_words t))
 
 -- ---- requests
 
@@ -225,14 +238,24 @@ never : (a : Bool) → a && false ≡ true → ⊥
 never true h = cc
 never false h = cc
 
-event_encodable : (p : Places) (e : Event) → is_event p e ≡ true → length (event_line e) < 2 ^ 32 → asks_encodable e ≡ true
+turn_lawful : (p : Places) (t : Turn) → is_turn p t ≡ true → length (spaced (turn_words t)) ≤ 2 ^ 32 → turn_encodable t ≡ true
 unfolding form.command
-event_encodable p (Client node shard (Write g (command.Write b))) h short = batch_lawful b (both (are_lawful b) _ (both _ _ h).1).0 (omega (arith, short, write_long node shard g b)) (omega (arith, short, write_size node shard g b))
-event_encodable p (Client node shard (Write g (command.Open n))) h short = (both (is_alone g) (is_number n) (both _ _ h).1).1
-event_encodable p (Client node shard (Write g (command.Close n))) h short = (both (is_alone g) (is_number n) (both _ _ h).1).1
-event_encodable p (Client node shard (Write g (command.Expire n))) h short = absurd (never _ h)
-event_encodable p (Client node shard (Read q)) h short = query_lawful q (both _ _ h).1
-event_encodable p (Tick node shard ms) h short = refl
+turn_lawful p (Client node shard (Write g (command.Write b))) h short = batch_lawful b (both (are_lawful b) _ (both _ _ h).1).0 (omega (arith, short, write_long node shard g b)) (omega (arith, short, write_size node shard g b))
+turn_lawful p (Client node shard (Write g (command.Open n))) h short = (both (is_alone g) (is_number n) (both _ _ h).1).1
+turn_lawful p (Client node shard (Write g (command.Close n))) h short = (both (is_alone g) (is_number n) (both _ _ h).1).1
+turn_lawful p (Client node shard (Write g (command.Expire n))) h short = absurd (never _ h)
+turn_lawful p (Client node shard (Read q)) h short = query_lawful q (both _ _ h).1
+turn_lawful p (Deliver message) h short = refl
+turn_lawful p (Tick node shard ms) h short = refl
+
+event_encodable : (p : Places) (e : Event) → is_event p e ≡ true → length (event_line e) < 2 ^ 32 → asks_encodable e ≡ true
+event_encodable p (event.Takes t) h short = turn_lawful p t h (omega (arith, short, takes_size t))
+event_encodable p (event.Cut call i t) h short = turn_lawful p t (both _ _ h).1 (omega (arith, short, cut_size call i t))
+event_encodable p (event.Stop node) h short = refl
+event_encodable p (event.Start node) h short = refl
+event_encodable p (event.Lose node) h short = refl
+event_encodable p (event.Fence node shard term) h short = refl
+event_encodable p (event.Lead node shard term) h short = refl
 
 -- ---- the lines of a text
 

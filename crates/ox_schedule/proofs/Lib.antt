@@ -5,6 +5,7 @@ mod OptionLemmas
 mod Fields
 mod OpsLemmas
 mod BatchLemmas
+mod TurnLemmas
 mod EventLemmas
 mod WordLemmas
 mod JoinLemmas
@@ -15,3 +16,4 @@ mod ShapeLemmas
 mod WriterLemmas
 mod LawfulLemmas
 mod BadLineLemmas
+mod PlaceLemmas

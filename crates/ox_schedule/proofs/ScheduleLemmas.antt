@@ -1,8 +1,8 @@
 -- The reader of a schedule answers one exactly where the bytes spell it.
-use Rattle.std.proofs.Common.{◌≡◌, ◌∙◌, ℕ, ◌+◌, true, false, not, eqb, cond, List, [], ◌∷◌, ◌++◌, length, map, codes, decimal, Result, Ok, Err, inl, inr, refl, sym, ap, subst, arith, append_assoc}
+use Rattle.std.proofs.Common.{◌≡◌, ◌∙◌, ℕ, ◌+◌, ◌^◌, true, false, not, leb, Option, Some, None, eqb, cond, List, [], ◌∷◌, ◌++◌, length, map, codes, decimal, Result, Ok, Err, inl, inr, refl, sym, ap, subst, arith, append_assoc}
 use Rattle.std.specs.List.{list_all, join_with_byte}
 use Rattle.std.specs.Str.{bytes_eq}
-use Rattle.std.proofs.lemmas.Bool.{eqb-true}
+use Rattle.std.proofs.lemmas.Bool.{eqb-true, leb-true, lt-ltb}
 use Rattle.ox_types.specs.declared.ended.LineRule.{LineRule}
 use Rattle.ox_types.specs.declared.ended.LineRule.TheVariants as rule
 use Rattle.ox_schedule.specs.declared.schedule.Event.{Event}
@@ -13,9 +13,9 @@ use Rattle.ox_schedule.specs.declared.schedule.Schedule.{Schedule}
 use Rattle.ox_schedule.specs.declared.fault.ScheduleFault.{ScheduleFault}
 use Rattle.std.specs.Prelude.{IfOk}
 use Rattle.ox_schedule.specs.Outcome.{◌>>=◌}
-use Rattle.ox_schedule.specs.Spelling.{is_event, event_line, is_word, words_of, SpellsEvent}
+use Rattle.ox_schedule.specs.Spelling.{is_number, is_event, event_line, is_word, words_of, SpellsEvent}
 use Rattle.ox_schedule.specs.Reading.{number_of, line_at}
-use Rattle.ox_schedule.specs.Schedule.{Answers, SpellsSchedule, lines_of, places_of, is_first, first_words, first_line, at_line, with_front, event_then, events_at, first_of, first_at, schedule_with, behind_first, schedule_in, schedule_at}
+use Rattle.ox_schedule.specs.Schedule.{Answers, SpellsSchedule, lines_of, places_of, is_block_count, is_first, room_words, first_words, first_line, at_line, with_front, event_then, events_at, shard_count_of, block_count_of, solo_of, first_of, first_at, schedule_with, behind_first, schedule_in, schedule_at}
 use Rattle.ox_schedule.proofs.Words.{both, two, same_bytes, number_is, number_again}
 use Rattle.ox_schedule.proofs.Steps.{bind_ok, chosen}
 use Rattle.ox_schedule.proofs.JoinLemmas.{words_joined, line_joined, some_line}
@@ -54,23 +54,49 @@ events_again p n (line ∷ lines) (e ∷ es) same h =
 
 -- ---- the first line
 
+shard_count_is : (w : List ℕ) (n : ℕ) → shard_count_of w ≡ Ok n → (w ≡ decimal n) × (eqb n 1 ≡ true)
+unfolding shard_count_of
+shard_count_is w n h =
+    let s = bind_ok (number_of w) (λ n. cond (eqb n 1) (Ok n) (Err rule.Number)) n h in
+    elim (chosen (eqb s.0 1) (Ok s.0) (Err rule.Number) (Ok n) s.2) [
+      | inl y ↦ let it : s.0 ≡ n = cc (y.1) in subst (λ (q : ℕ). (w ≡ decimal q) × (eqb q 1 ≡ true)) it ((number_is w s.0 s.1).0, y.0)
+      | inr y ↦ absurd (cc (y.1))
+    ]
+
+block_count_is : (w : List ℕ) (n : ℕ) → block_count_of w ≡ Ok n → (w ≡ decimal n) × (is_block_count n ≡ true)
+unfolding block_count_of
+block_count_is w n h =
+    let s = bind_ok (number_of w) (λ n. cond (is_block_count n) (Ok n) (Err rule.Number)) n h in
+    elim (chosen (is_block_count s.0) (Ok s.0) (Err rule.Number) (Ok n) s.2) [
+      | inl y ↦ let it : s.0 ≡ n = cc (y.1) in subst (λ (q : ℕ). (w ≡ decimal q) × (is_block_count q ≡ true)) it ((number_is w s.0 s.1).0, y.0)
+      | inr y ↦ absurd (cc (y.1))
+    ]
+
+solo_is : (ws : List (List ℕ)) (f : First) → solo_of ws ≡ Ok f → (codes "solo" ∷ ws ≡ first_words f) × (is_first f ≡ true)
+unfolding solo_of
+solo_is [] f h = absurd cc
+solo_is (w ∷ []) f h =
+    let s = bind_ok (shard_count_of w) (λ shards. Ok (Solo shards None)) f h in
+    let it : Solo s.0 None ≡ f = cc (s.2) in
+    let k = shard_count_is w s.0 s.1 in
+    subst (λ (g : First). (codes "solo" ∷ w ∷ [] ≡ first_words g) × (is_first g ≡ true)) it
+    (ap (λ (v : List ℕ). codes "solo" ∷ v ∷ []) k.0, two _ true k.1 refl)
+solo_is (w ∷ b ∷ []) f h =
+    let s = bind_ok (shard_count_of w) (λ shards. block_count_of b >>= λ n. Ok (Solo shards (Some n))) f h in
+    let n = bind_ok (block_count_of b) (λ n. Ok (Solo s.0 (Some n))) f s.2 in
+    let it : Solo s.0 (Some n.0) ≡ f = cc (n.2) in
+    let k = shard_count_is w s.0 s.1 in
+    let m = block_count_is b n.0 n.1 in
+    subst (λ (g : First). (codes "solo" ∷ w ∷ b ∷ [] ≡ first_words g) × (is_first g ≡ true)) it
+    (ap (λ (v : List ℕ). codes "solo" ∷ v ∷ b ∷ []) k.0 ∙ ap (λ (v : List ℕ). codes "solo" ∷ decimal s.0 ∷ v ∷ []) m.0, two _ _ k.1 m.1)
+solo_is (w ∷ b ∷ x ∷ ws) f h = absurd cc
+
 first_of_is : (ws : List (List ℕ)) (f : First) → first_of ws ≡ Ok f → (ws ≡ first_words f) × (is_first f ≡ true)
 unfolding first_of
 first_of_is [] f h = absurd cc
-first_of_is (w ∷ []) f h = absurd cc
-first_of_is (w ∷ n ∷ x ∷ ws) f h = absurd cc
-first_of_is (w ∷ n ∷ []) f h =
-    elim (chosen (bytes_eq w (codes "solo")) (number_of n >>= λ shards. cond (eqb shards 1) (Ok (Solo shards)) (Err rule.Number)) (Err rule.First) (Ok f) h) [
-      | inl x ↦
-          let s = bind_ok (number_of n) (λ shards. cond (eqb shards 1) (Ok (Solo shards)) (Err rule.Number)) f x.1 in
-          elim (chosen (eqb s.0 1) (Ok (Solo s.0)) (Err rule.Number) (Ok f) s.2) [
-            | inl y ↦
-                let it : Solo s.0 ≡ f = cc (y.1) in
-                let k = number_is n s.0 s.1 in
-                subst (λ (g : First). (w ∷ n ∷ [] ≡ first_words g) × (is_first g ≡ true)) it
-                (ap (λ (v : List ℕ). v ∷ n ∷ []) (same_bytes w (codes "solo") x.0) ∙ ap (λ (v : List ℕ). codes "solo" ∷ v ∷ []) k.0, y.0)
-            | inr y ↦ absurd (cc (y.1))
-          ]
+first_of_is (w ∷ ws) f h =
+    elim (chosen (bytes_eq w (codes "solo")) (solo_of ws) (Err rule.First) (Ok f) h) [
+      | inl x ↦ let k = solo_is ws f x.1 in (ap (λ (v : List ℕ). v ∷ ws) (same_bytes w (codes "solo") x.0) ∙ k.0, k.1)
       | inr x ↦ absurd (cc (x.1))
     ]
 
@@ -89,21 +115,39 @@ first_found line f h =
       ]
     ]
 
-solo_again : (s : ℕ) → eqb s 1 ≡ true → (list_all is_word (first_words (Solo s)) ≡ true) × (first_of (first_words (Solo s)) ≡ Ok (Solo s))
-unfolding first_of
-solo_again s h = let one : s ≡ 1 = eqb-true s 1 h in subst (λ (n : ℕ). (list_all is_word (first_words (Solo n)) ≡ true) × (first_of (first_words (Solo n)) ≡ Ok (Solo n))) (sym one) (rw (number_is_word 1 refl) refl, rw (number_again 1 refl) refl)
+small_count : (n : ℕ) → is_block_count n ≡ true → is_number n ≡ true
+small_count n h = lt-ltb n (2 ^ 64) (omega (arith, leb-true n 65536 (both (leb 8 n) (leb n 65536) h).1))
 
-first_split : (s : ℕ) → list_all is_word (first_words (Solo s)) ≡ true → words_of (first_line (Solo s)) ≡ first_words (Solo s)
-unfolding first_line
-first_split s h = words_joined (first_words (Solo s)) (omega arith) h
+shard_count_again : (s : ℕ) → eqb s 1 ≡ true → (is_number s ≡ true) × (shard_count_of (decimal s) ≡ Ok s)
+unfolding shard_count_of
+shard_count_again s h = let one : s ≡ 1 = eqb-true s 1 h in let small : is_number s ≡ true = subst (λ (n : ℕ). is_number n ≡ true) (sym one) refl in (small, rw (number_again s small, h) refl)
 
-first_some : (s : ℕ) → eqb (length (first_line (Solo s))) 0 ≡ false
+block_count_again : (n : ℕ) → is_block_count n ≡ true → block_count_of (decimal n) ≡ Ok n
+unfolding block_count_of
+block_count_again n h = rw (number_again n (small_count n h), h) refl
+
+solo_again : (s : ℕ) (b : Option ℕ) → is_first (Solo s b) ≡ true → (list_all is_word (first_words (Solo s b)) ≡ true) × (first_of (first_words (Solo s b)) ≡ Ok (Solo s b))
+unfolding first_of solo_of
+solo_again s None h =
+    let x = both (eqb s 1) true h in
+    let k = shard_count_again s x.0 in
+    (rw (number_is_word s k.0) refl, rw k.1 refl)
+solo_again s (Some n) h =
+    let x = both (eqb s 1) (is_block_count n) h in
+    let k = shard_count_again s x.0 in
+    (rw (number_is_word s k.0, number_is_word n (small_count n x.1)) refl, rw (k.1, block_count_again n x.1) refl)
+
+first_split : (s : ℕ) (b : Option ℕ) → list_all is_word (first_words (Solo s b)) ≡ true → words_of (first_line (Solo s b)) ≡ first_words (Solo s b)
 unfolding first_line
-first_some s = some_line (codes "solo") (decimal s) []
+first_split s b h = words_joined (first_words (Solo s b)) (omega arith) h
+
+first_some : (s : ℕ) (b : Option ℕ) → eqb (length (first_line (Solo s b))) 0 ≡ false
+unfolding first_line
+first_some s b = some_line (codes "solo") (decimal s) (room_words b)
 
 pub own_first : (f : First) → is_first f ≡ true → first_at (first_line f) ≡ Ok f
 unfolding first_at
-own_first (Solo s) h = let x = solo_again s h in rw (first_some s, first_split s x.0, x.0, x.1) refl
+own_first (Solo s b) h = let x = solo_again s b h in rw (first_some s b, first_split s b x.0, x.0, x.1) refl
 
 first_again : (line : List ℕ) (f : First) → line ≡ first_line f → is_first f ≡ true → first_at line ≡ Ok f
 first_again line f same h = subst (λ (l : List ℕ). first_at l ≡ Ok f) (sym same) (own_first f h)

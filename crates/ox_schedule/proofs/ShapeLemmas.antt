@@ -14,11 +14,14 @@ use Rattle.ox_order.specs.declared.range.Hi.TheVariants.{End, Before}
 use Rattle.ox_ops.specs.declared.write.Expect.TheVariants.{Any, Absent, Exactly}
 use Rattle.percent_encoding.specs.Percent.{percent_decode}
 use Rattle.std.specs.Str.Parse.{digits_value}
-use Rattle.ox_schedule.specs.Spelling.{spelt, value_word, is_key, is_value, is_name, is_number, is_empty, is_node, is_shard, is_word, words_of}
-use Rattle.ox_schedule.proofs.EventLemmas.{node_is, shard_is}
+use Rattle.ox_schedule.specs.Spelling.{spelt, value_word, is_key, is_value, is_name, is_number, is_empty, is_node, is_shard, is_call, is_term, is_word, words_of}
+use Rattle.ox_schedule.proofs.TurnLemmas.{node_is, shard_is}
+use Rattle.ox_schedule.proofs.EventLemmas.{call_is}
+use Rattle.ox_schedule.specs.declared.schedule.Image.TheVariants as image
+use Rattle.ox_schedule.specs.declared.schedule.Turn.TheVariants.{Deliver}
 use Rattle.ox_schedule.specs.Outcome.{◌>>=◌, said}
-use Rattle.ox_schedule.specs.Shape.{ops_in, is_compare, write_fits, op_fits, get_fits, single_fits, request_fits, client_fits, event_fits}
-use Rattle.ox_schedule.specs.Reading.{after, word_at, number_of, key_of, key_at, value_of, value_guess, value_at, name_of, each_of, session_of, deltas_of, at_colon, entry_in, entry_of, entry_given, entry_option, by_of, option_given, option_at, expect_of, expect_at, session_at, deltas_at, by_at, index_of, options_end, number_at, single_of, notices_of, lo_given, lo_of, hi_of, compare_of, range_at, range_of, ends_of, put_of, delete_of, get_of, with_put, with_delete, op_onto, ops_onto, batch_of, alone_of, request_of, node_at, shard_at, client_of, tick_of, event_of, line_at, empty_batch}
+use Rattle.ox_schedule.specs.Shape.{ops_in, is_compare, write_fits, op_fits, get_fits, single_fits, request_fits, client_fits, turn_fits, is_image, cut_fits, event_fits}
+use Rattle.ox_schedule.specs.Reading.{after, word_at, number_of, key_of, key_at, value_of, value_guess, value_at, name_of, each_of, session_of, deltas_of, at_colon, entry_in, entry_of, entry_given, entry_option, by_of, option_given, option_at, expect_of, expect_at, session_at, deltas_at, by_at, index_of, options_end, number_at, single_of, notices_of, lo_given, lo_of, hi_of, compare_of, range_at, range_of, ends_of, put_of, delete_of, get_of, with_put, with_delete, op_onto, ops_onto, batch_of, alone_of, request_of, node_at, shard_at, client_of, tick_of, turn_of, call_at, image_of, cut_of, node_of, term_of, seat_of, event_of, line_at, empty_batch}
 use Rattle.ox_schedule.proofs.Words.{both, same_bytes}
 use Rattle.ox_schedule.proofs.Steps.{word_is}
 use Rattle.ox_schedule.proofs.Fields.{key_at_is, number_at_is}
@@ -401,15 +404,134 @@ tick_fine p ws h =
     bind_fine (shard_at p x.1) _ (shard_fine p x.1 (omega (arith, h, ap length (node_is p ws x e).0))) (λ y f.
     bind_fine (single_of y.1) _ (single_fine y.1 (omega (arith, h, ap length (node_is p ws x e).0, ap length (shard_is p x.1 y f).0))) (λ n g. (record { is = refl }))))
 
-event_fine : (p : Places) (ws : List (List ℕ)) → event_fits ws ≡ true → Fine (event_of p ws)
-unfolding event_fits event_of
-event_fine p [] h = absurd cc
-event_fine p (v ∷ ws) h =
+deliver_fine : (ws : List (List ℕ)) → length ws ≡ 1 → Fine (single_of ws >>= λ message. Ok (Deliver message))
+deliver_fine ws h = bind_fine (single_of ws) (λ message. Ok (Deliver message)) (single_fine ws (omega (arith, h))) (λ n e. (record { is = refl }))
+
+turn_fine : (p : Places) (ws : List (List ℕ)) → turn_fits ws ≡ true → Fine (turn_of p ws)
+unfolding turn_fits turn_of
+turn_fine p [] h = absurd cc
+turn_fine p (v ∷ ws) h =
     elim (cases_Bool (bytes_eq v (codes "client"))) [
       | inl c ↦ let fits : client_fits ws ≡ true = rw c at h in rw c (client_fine p ws fits)
-      | inr c ↦ elim (cases_Bool (bytes_eq v (codes "tick"))) [
-        | inl t ↦ let three : eqb (length ws) 3 ≡ true = rw (c, t) at h in rw (c, t) (tick_fine p ws (eqb-true (length ws) 3 three))
-        | inr t ↦ let never : false ≡ true = rw (c, t) at h in absurd cc
+      | inr c ↦ elim (cases_Bool (bytes_eq v (codes "deliver"))) [
+        | inl d ↦ let one : eqb (length ws) 1 ≡ true = rw (c, d) at h in rw (c, d) (deliver_fine ws (eqb-true (length ws) 1 one))
+        | inr d ↦ elim (cases_Bool (bytes_eq v (codes "tick"))) [
+          | inl t ↦ let three : eqb (length ws) 3 ≡ true = rw (c, d, t) at h in rw (c, d, t) (tick_fine p ws (eqb-true (length ws) 3 three))
+          | inr t ↦ let never : false ≡ true = rw (c, d, t) at h in absurd cc
+        ]
+      ]
+    ]
+
+call_fine : (ws : List (List ℕ)) → 0 < length ws → Fine (call_at ws)
+unfolding call_at
+call_fine ws h = bind_fine (word_at ws) _ (word_fine ws h) (λ w e. bind_fine (number_of w.0) _ (number_fine w.0) (λ n f. test_fine (is_call n) (Ok (n, w.1)) (Err rule.Number) (record { is = refl }) (record { is = refl })))
+
+image_fine : (w : List ℕ) → is_image w ≡ true → Fine (image_of w)
+unfolding image_of
+image_fine w h = three (bytes_eq w (codes "none")) (bytes_eq w (codes "kept")) (bytes_eq w (codes "torn")) h
+  where
+    three : (a b c : Bool) → a || b || c ≡ true → Fine (cond a (Ok image.Nothing) (cond b (Ok image.Kept) (cond c (Ok image.Torn) (Err rule.Word))))
+    three true b c h = record { is = refl }
+    three false true c h = record { is = refl }
+    three false false true h = record { is = refl }
+    three false false false h = absurd (cc)
+
+cut_fine : (p : Places) (ws : List (List ℕ)) → cut_fits ws ≡ true → Fine (cut_of p ws)
+unfolding cut_of
+cut_fine p [] h = absurd cc
+cut_fine p (n ∷ []) h = absurd cc
+cut_fine p (n ∷ i ∷ ws) h =
+    let fits = both (is_image i) (turn_fits ws) h in
+    bind_fine (call_at (n ∷ i ∷ ws)) _ (call_fine (n ∷ i ∷ ws) (omega arith)) (λ x e.
+    let one : x.1 ≡ i ∷ ws = call_tail n x.0 _ _ (call_is (n ∷ i ∷ ws) x e).0 in
+    bind_fine (word_at x.1) _ (word_fine x.1 (omega (arith, ap length one))) (λ y f.
+    let here : i ∷ ws ≡ y.0 ∷ y.1 = sym one ∙ word_is x.1 y f in
+    let left : i ≡ y.0 = cc in
+    let rest : ws ≡ y.1 = cc in
+    bind_fine (image_of y.0) _ (image_fine y.0 (subst (λ (w : List ℕ). is_image w ≡ true) left fits.0)) (λ j g.
+    bind_fine (turn_of p y.1) _ (turn_fine p y.1 (subst (λ (t : List (List ℕ)). turn_fits t ≡ true) rest fits.1)) (λ r k. (record { is = refl })))))
+  where
+    call_tail : (a : List ℕ) (k : ℕ) (rest others : List (List ℕ)) → a ∷ rest ≡ decimal k ∷ others → others ≡ rest
+    call_tail a k rest others e = cc
+
+lone_fine : (p : Places) (ws : List (List ℕ)) → length ws ≡ 1 → Fine (node_of p ws)
+unfolding node_of
+lone_fine p ws h = bind_fine (node_at p ws) _ (node_fine p ws (omega (arith, h))) (λ x e. bind_fine (options_end x.1) _ (end_fine x.1) (λ u f. (record { is = refl })))
+
+term_fine : (ws : List (List ℕ)) → 1 ≤ length ws → Fine (term_of ws)
+unfolding term_of
+term_fine ws h = bind_fine (single_of ws) _ (single_fine ws h) (λ n e. test_fine (is_term n) (Ok n) (Err rule.Number) (record { is = refl }) (record { is = refl }))
+
+seat_fine : (p : Places) (ws : List (List ℕ)) → length ws ≡ 3 → Fine (seat_of p ws)
+unfolding seat_of
+seat_fine p ws h =
+    bind_fine (node_at p ws) _ (node_fine p ws (omega (arith, h))) (λ x e.
+    bind_fine (shard_at p x.1) _ (shard_fine p x.1 (omega (arith, h, ap length (node_is p ws x e).0))) (λ y f.
+    bind_fine (term_of y.1) _ (term_fine y.1 (omega (arith, h, ap length (node_is p ws x e).0, ap length (shard_is p x.1 y f).0))) (λ n g. (record { is = refl }))))
+
+abbrev IsHappening : Places → List (List ℕ) → List ℕ → Type 0
+IsHappening p ws v = event_fits (v ∷ ws) ≡ true → Fine (event_of p (v ∷ ws))
+
+at_cut : (p : Places) (ws : List (List ℕ)) → IsHappening p ws (codes "cut")
+unfolding event_fits event_of
+at_cut p ws h = cut_fine p ws h
+
+at_stop : (p : Places) (ws : List (List ℕ)) → IsHappening p ws (codes "stop")
+unfolding event_fits event_of
+at_stop p ws h = bind_fine (node_of p ws) _ (lone_fine p ws (eqb-true (length ws) 1 h)) (λ n e. (record { is = refl }))
+
+at_start : (p : Places) (ws : List (List ℕ)) → IsHappening p ws (codes "start")
+unfolding event_fits event_of
+at_start p ws h = bind_fine (node_of p ws) _ (lone_fine p ws (eqb-true (length ws) 1 h)) (λ n e. (record { is = refl }))
+
+at_lose : (p : Places) (ws : List (List ℕ)) → IsHappening p ws (codes "lose")
+unfolding event_fits event_of
+at_lose p ws h = bind_fine (node_of p ws) _ (lone_fine p ws (eqb-true (length ws) 1 h)) (λ n e. (record { is = refl }))
+
+at_fence : (p : Places) (ws : List (List ℕ)) → IsHappening p ws (codes "fence")
+unfolding event_fits event_of
+at_fence p ws h = bind_fine (seat_of p ws) _ (seat_fine p ws (eqb-true (length ws) 3 h)) (λ n e. (record { is = refl }))
+
+at_lead : (p : Places) (ws : List (List ℕ)) → IsHappening p ws (codes "lead")
+unfolding event_fits event_of
+at_lead p ws h = bind_fine (seat_of p ws) _ (seat_fine p ws (eqb-true (length ws) 3 h)) (λ n e. (record { is = refl }))
+
+-- none of the words of events that no actor takes
+record IsTurn (v : List ℕ) : Type 0 where
+  pub cut : bytes_eq v (codes "cut") ≡ false
+  pub stop : bytes_eq v (codes "stop") ≡ false
+  pub start : bytes_eq v (codes "start") ≡ false
+  pub lose : bytes_eq v (codes "lose") ≡ false
+  pub fence : bytes_eq v (codes "fence") ≡ false
+  pub lead : bytes_eq v (codes "lead") ≡ false
+
+taken_fine : (p : Places) (v : List ℕ) (ws : List (List ℕ)) → IsTurn v → IsHappening p ws v
+unfolding event_fits event_of
+taken_fine p v ws o h =
+    let fits : turn_fits (v ∷ ws) ≡ true = rw (o.cut, o.stop, o.start, o.lose, o.fence, o.lead) at h in
+    rw (o.cut, o.stop, o.start, o.lose, o.fence, o.lead) (bind_fine (turn_of p (v ∷ ws)) _ (turn_fine p (v ∷ ws) fits) (λ t e. (record { is = refl })))
+
+event_fine : (p : Places) (ws : List (List ℕ)) → event_fits ws ≡ true → Fine (event_of p ws)
+unfolding event_fits
+event_fine p [] h = absurd cc
+event_fine p (v ∷ ws) h =
+    elim (split v (codes "cut")) [
+      | inl e ↦ subst (IsHappening p ws) (sym e) (at_cut p ws) h
+      | inr c ↦ elim (split v (codes "stop")) [
+        | inl e ↦ subst (IsHappening p ws) (sym e) (at_stop p ws) h
+        | inr d ↦ elim (split v (codes "start")) [
+          | inl e ↦ subst (IsHappening p ws) (sym e) (at_start p ws) h
+          | inr f ↦ elim (split v (codes "lose")) [
+            | inl e ↦ subst (IsHappening p ws) (sym e) (at_lose p ws) h
+            | inr g ↦ elim (split v (codes "fence")) [
+              | inl e ↦ subst (IsHappening p ws) (sym e) (at_fence p ws) h
+              | inr i ↦ elim (split v (codes "lead")) [
+                | inl e ↦ subst (IsHappening p ws) (sym e) (at_lead p ws) h
+                | inr j ↦ taken_fine p v ws (record { cut = c; stop = d; start = f; lose = g; fence = i; lead = j }) h
+              ]
+            ]
+          ]
+        ]
       ]
     ]
 

@@ -28,10 +28,14 @@ use Rattle.ox_ops.specs.declared.query.ShardQuery.TheVariants as query
 use Rattle.ox_schedule.specs.declared.schedule.Grouping.TheVariants as grouping
 use Rattle.ox_schedule.specs.declared.schedule.Request.{Request}
 use Rattle.ox_schedule.specs.declared.schedule.Request.TheVariants.{Write, Read}
+use Rattle.ox_schedule.specs.declared.schedule.Image.{Image}
+use Rattle.ox_schedule.specs.declared.schedule.Image.TheVariants as image
+use Rattle.ox_schedule.specs.declared.schedule.Turn.{Turn}
+use Rattle.ox_schedule.specs.declared.schedule.Turn.TheVariants.{Client, Deliver, Tick}
 use Rattle.ox_schedule.specs.declared.schedule.Event.{Event}
-use Rattle.ox_schedule.specs.declared.schedule.Event.TheVariants.{Client, Tick}
+use Rattle.ox_schedule.specs.declared.schedule.Event.TheVariants as event
 use Rattle.ox_schedule.specs.declared.schedule.Places.{Places}
-use Rattle.ox_schedule.specs.Spelling.{is_plain, escape, spelt, is_printable, is_word, is_key, is_number, is_expect, is_session, is_by, session_words, numbers_text, deltas_words, entry_word, by_words, put_options, is_lo, is_hi, is_range, is_put, is_delete, are_lawful, is_alone, is_request, is_event, value_word, expect_words, lo_word, hi_word, range_words, put_op, delete_op, range_op, batch_ops, joined, compare_word, request_words, event_words}
+use Rattle.ox_schedule.specs.Spelling.{is_plain, escape, spelt, is_printable, is_word, is_key, is_number, is_expect, is_session, is_by, session_words, numbers_text, deltas_words, entry_word, by_words, put_options, is_lo, is_hi, is_range, is_put, is_delete, are_lawful, is_alone, names_node, names_shard, is_seat, is_request, is_turn, is_event, value_word, expect_words, lo_word, hi_word, range_words, put_op, delete_op, range_op, batch_ops, joined, compare_word, request_words, turn_words, image_word, event_words}
 use Rattle.ox_schedule.proofs.Words.{both, two, spelt_is, some_word}
 use Rattle.ox_schedule.proofs.Fields.{PutParts, put_parts}
 
@@ -196,16 +200,41 @@ request_are_words (Read (query.Scan r by)) h = words_both (range_words r) (by_wo
 request_are_words (Read (query.Notices past skip)) h = let x = both (is_number past) (is_number skip) h in rw (number_is_word past x.0, number_is_word skip x.1) refl
 request_are_words (Read (query.KeepAlive n)) h = two _ true (number_is_word n h) refl
 
+node_is_word : (p : Places) (n : ℕ) → names_node p n ≡ true → is_word (decimal n) ≡ true
+node_is_word p n h = number_is_word n (both (is_number n) _ h).0
+
+shard_is_word : (p : Places) (s : ℕ) → names_shard p s ≡ true → is_word (decimal s) ≡ true
+shard_is_word p s h = number_is_word s (both (is_number s) _ h).0
+
+turn_are_words : (p : Places) (t : Turn) → is_turn p t ≡ true → list_all is_word (turn_words t) ≡ true
+turn_are_words p (Client node shard r) h =
+    let a = both _ _ h in
+    let b = both _ _ a.0 in
+    rw (node_is_word p node b.0, shard_is_word p shard b.1, request_are_words r a.1) refl
+turn_are_words p (Deliver message) h = rw (number_is_word message h) refl
+turn_are_words p (Tick node shard ms) h =
+    let a = both _ _ h in
+    let b = both _ _ a.0 in
+    rw (node_is_word p node b.0, shard_is_word p shard b.1, number_is_word ms a.1) refl
+
+image_is_word : (i : Image) → is_word (image_word i) ≡ true
+image_is_word image.Nothing = refl
+image_is_word image.Kept = refl
+image_is_word image.Torn = refl
+
+seat_are_words : (p : Places) (node shard term : ℕ) → is_seat p node shard term ≡ true → list_all is_word (decimal node ∷ decimal shard ∷ decimal term ∷ []) ≡ true
+seat_are_words p node shard term h =
+    let a = both _ _ h in
+    let b = both _ _ a.0 in
+    rw (node_is_word p node b.0, shard_is_word p shard b.1, number_is_word term (both (is_number term) _ a.1).0) refl
+
 pub event_are_words : (places : Places) (e : Event) → is_event places e ≡ true → list_all is_word (event_words e) ≡ true
-event_are_words places (Client node shard r) h =
+event_are_words places (event.Takes t) h = turn_are_words places t h
+event_are_words places (event.Cut call i t) h =
     let a = both _ _ h in
-    let b = both _ _ a.0 in
-    let c = both _ _ b.0 in
-    let d = both _ _ c.0 in
-    rw (number_is_word node d.0, number_is_word shard c.1, request_are_words r a.1) refl
-event_are_words places (Tick node shard ms) h =
-    let a = both _ _ h in
-    let b = both _ _ a.0 in
-    let c = both _ _ b.0 in
-    let d = both _ _ c.0 in
-    rw (number_is_word node d.0, number_is_word shard c.1, number_is_word ms a.1) refl
+    rw (number_is_word call (both (is_number call) _ a.0).0, image_is_word i, turn_are_words places t a.1) refl
+event_are_words places (event.Stop node) h = two _ true (node_is_word places node h) refl
+event_are_words places (event.Start node) h = two _ true (node_is_word places node h) refl
+event_are_words places (event.Lose node) h = two _ true (node_is_word places node h) refl
+event_are_words places (event.Fence node shard term) h = seat_are_words places node shard term h
+event_are_words places (event.Lead node shard term) h = seat_are_words places node shard term h

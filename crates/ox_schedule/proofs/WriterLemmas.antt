@@ -1,12 +1,13 @@
 -- The text that is written word by word is the line.
-use Rattle.std.proofs.Common.{◌≡◌, ◌∙◌, ℕ, Bool, true, false, ◌||◌, List, [], ◌∷◌, ◌++◌, map, codes, decimal, refl, sym, ap, append_assoc}
+use Rattle.std.proofs.Common.{◌≡◌, ◌∙◌, ℕ, Bool, true, false, ◌||◌, List, [], ◌∷◌, ◌++◌, map, drop, codes, decimal, refl, sym, ap, append_assoc}
 use Rattle.std.specs.List.{flat_map, join_with_byte}
 use Rattle.std.proofs.lemmas.List.{append-nil}
 use Rattle.std.proofs.lemmas.Grind.{flat_map-append}
 use Rattle.ox_ops.specs.declared.write.WriteBatch.{WriteBatch}
-use Rattle.ox_schedule.specs.declared.schedule.Request.{Request}
-use Rattle.ox_schedule.specs.declared.schedule.Event.TheVariants.{Client, Tick}
-use Rattle.ox_schedule.specs.Spelling.{numbers_text, deltas_words, put_op, delete_op, range_op, joined, batch_ops, request_words, event_line}
+use Rattle.ox_schedule.specs.declared.schedule.Turn.TheVariants.{Client, Deliver, Tick}
+use Rattle.ox_schedule.specs.declared.schedule.Event.{Event}
+use Rattle.ox_schedule.specs.declared.schedule.Event.TheVariants as event
+use Rattle.ox_schedule.specs.Spelling.{numbers_text, deltas_words, put_op, delete_op, range_op, joined, batch_ops, request_words, turn_words, image_word, event_words, event_line}
 use Rattle.ox_schedule.specs.Line.{behind_space, behind_comma, spaced, has_some, plus_words, ops_behind}
 
 pub join_spaced : (w : List ℕ) (ws : List (List ℕ)) → join_with_byte 32 (w ∷ ws) ≡ w ++ spaced ws
@@ -69,23 +70,21 @@ batch_text text b =
 
 -- ---- the line of an event
 
-pub client_text : (text : List ℕ) (node shard : ℕ) (r : Request) → (((text ++ codes "client") ++ spaced (decimal node ∷ [])) ++ spaced (decimal shard ∷ [])) ++ spaced (request_words r) ≡ text ++ event_line (Client node shard r)
-unfolding event_line
-client_text text node shard r =
-    regroup text (codes "client") (decimal node) (decimal shard) (spaced (request_words r))
-    ∙ ap (λ (t : List ℕ). text ++ t) (sym (join_spaced (codes "client") (decimal node ∷ decimal shard ∷ request_words r)))
-  where
-    regroup : (a b c d e : List ℕ) → (((a ++ b) ++ ((32 ∷ c) ++ [])) ++ ((32 ∷ d) ++ [])) ++ e ≡ a ++ (b ++ ((32 ∷ c) ++ ((32 ∷ d) ++ e)))
-    regroup a b c d e = simp (append-nil, append_assoc)
+behind : (w : List ℕ) (ws : List (List ℕ)) → drop 1 (spaced (w ∷ ws)) ≡ join_with_byte 32 (w ∷ ws)
+behind w ws = sym (join_spaced w ws)
 
-pub tick_text : (text : List ℕ) (node shard ms : ℕ) → (((text ++ codes "tick") ++ spaced (decimal node ∷ [])) ++ spaced (decimal shard ∷ [])) ++ spaced (decimal ms ∷ []) ≡ text ++ event_line (Tick node shard ms)
+-- what stands behind the first space is the line
+pub line_text : (e : Event) → drop 1 (spaced (event_words e)) ≡ event_line e
 unfolding event_line
-tick_text text node shard ms =
-    regroup text (codes "tick") (decimal node) (decimal shard) (spaced (decimal ms ∷ []))
-    ∙ ap (λ (t : List ℕ). text ++ t) (sym (join_spaced (codes "tick") (decimal node ∷ decimal shard ∷ decimal ms ∷ [])))
-  where
-    regroup : (a b c d e : List ℕ) → (((a ++ b) ++ ((32 ∷ c) ++ [])) ++ ((32 ∷ d) ++ [])) ++ e ≡ a ++ (b ++ ((32 ∷ c) ++ ((32 ∷ d) ++ e)))
-    regroup a b c d e = simp (append-nil, append_assoc)
+line_text (event.Takes (Client node shard r)) = behind (codes "client") (decimal node ∷ decimal shard ∷ request_words r)
+line_text (event.Takes (Deliver message)) = behind (codes "deliver") (decimal message ∷ [])
+line_text (event.Takes (Tick node shard ms)) = behind (codes "tick") (decimal node ∷ decimal shard ∷ decimal ms ∷ [])
+line_text (event.Cut call i t) = behind (codes "cut") (decimal call ∷ image_word i ∷ turn_words t)
+line_text (event.Stop node) = behind (codes "stop") (decimal node ∷ [])
+line_text (event.Start node) = behind (codes "start") (decimal node ∷ [])
+line_text (event.Lose node) = behind (codes "lose") (decimal node ∷ [])
+line_text (event.Fence node shard term) = behind (codes "fence") (decimal node ∷ decimal shard ∷ decimal term ∷ [])
+line_text (event.Lead node shard term) = behind (codes "lead") (decimal node ∷ decimal shard ∷ decimal term ∷ [])
 
 -- ---- deltas
 

@@ -25,11 +25,15 @@ use Rattle.ox_ops.specs.declared.query.ShardQuery.TheVariants as query
 use Rattle.ox_schedule.specs.declared.schedule.Grouping.TheVariants as grouping
 use Rattle.ox_schedule.specs.declared.schedule.Request.{Request}
 use Rattle.ox_schedule.specs.declared.schedule.Request.TheVariants.{Write, Read}
+use Rattle.ox_schedule.specs.declared.schedule.Image.{Image}
+use Rattle.ox_schedule.specs.declared.schedule.Image.TheVariants as image
+use Rattle.ox_schedule.specs.declared.schedule.Turn.{Turn}
+use Rattle.ox_schedule.specs.declared.schedule.Turn.TheVariants.{Client, Deliver, Tick}
 use Rattle.ox_schedule.specs.declared.schedule.Event.{Event}
-use Rattle.ox_schedule.specs.declared.schedule.Event.TheVariants.{Client, Tick}
+use Rattle.ox_schedule.specs.declared.schedule.Event.TheVariants as event
 use Rattle.ox_schedule.specs.declared.schedule.Places.{Places}
 use Rattle.ox_schedule.specs.Outcome.{◌>>=◌, said}
-use Rattle.ox_schedule.specs.Spelling.{spelt, value_word, is_key, is_value, is_name, is_number, is_empty, is_node, is_shard, is_word, words_of}
+use Rattle.ox_schedule.specs.Spelling.{spelt, value_word, is_key, is_value, is_name, is_number, is_empty, is_node, is_shard, is_call, is_term, is_word, words_of}
 use Rattle.ox_schedule.specs.Shape.{ops_in, event_fits}
 
 -- ---- one word
@@ -333,7 +337,7 @@ shard_at places ws = do
   if is_shard places s then Ok (s, w.1) else Err rule.Name
 
 -- the words behind `client`
-unfoldable pub client_of : Places → List (List ℕ) → Result Event LineRule
+unfoldable pub client_of : Places → List (List ℕ) → Result Turn LineRule
 client_of places ws = do
   node ← node_at places ws
   shard ← shard_at places node.1
@@ -341,18 +345,74 @@ client_of places ws = do
   Ok (Client node.0 shard.0 r)
 
 -- the words behind `tick`
-unfoldable pub tick_of : Places → List (List ℕ) → Result Event LineRule
+unfoldable pub tick_of : Places → List (List ℕ) → Result Turn LineRule
 tick_of places ws = do
   node ← node_at places ws
   shard ← shard_at places node.1
   ms ← single_of shard.1
   Ok (Tick node.0 shard.0 ms)
 
+-- what words say that an actor takes
+unfoldable pub turn_of : Places → List (List ℕ) → Result Turn LineRule
+turn_of places ws = word_at ws >>= λ w.
+    if bytes_eq w.0 (codes "client") then client_of places w.1
+    else (if bytes_eq w.0 (codes "deliver") then (single_of w.1 >>= λ message. Ok (Deliver message))
+    else (if bytes_eq w.0 (codes "tick") then tick_of places w.1 else Err rule.Word))
+
+-- the number of a device call
+unfoldable pub call_at : List (List ℕ) → Result (ℕ × List (List ℕ)) LineRule
+call_at ws = do
+  w ← word_at ws
+  n ← number_of w.0
+  if is_call n then Ok (n, w.1) else Err rule.Number
+
+-- what a word says that a cut leaves
+unfoldable pub image_of : List ℕ → Result Image LineRule
+image_of w =
+    if bytes_eq w (codes "none") then Ok image.Nothing
+    else (if bytes_eq w (codes "kept") then Ok image.Kept
+    else (if bytes_eq w (codes "torn") then Ok image.Torn else Err rule.Word))
+
+-- the words behind `cut`
+unfoldable pub cut_of : Places → List (List ℕ) → Result Event LineRule
+cut_of places ws = do
+  call ← call_at ws
+  w ← word_at call.1
+  i ← image_of w.0
+  t ← turn_of places w.1
+  Ok (event.Cut call.0 i t)
+
+-- a node that is there and nothing more
+unfoldable pub node_of : Places → List (List ℕ) → Result ℕ LineRule
+node_of places ws = do
+  node ← node_at places ws
+  end ← options_end node.1
+  Ok node.0
+
+-- a term and nothing more
+unfoldable pub term_of : List (List ℕ) → Result ℕ LineRule
+term_of ws = do
+  n ← single_of ws
+  if is_term n then Ok n else Err rule.Number
+
+-- a node, a shard and a term, and nothing more
+unfoldable pub seat_of : Places → List (List ℕ) → Result (ℕ × ℕ × ℕ) LineRule
+seat_of places ws = do
+  node ← node_at places ws
+  shard ← shard_at places node.1
+  term ← term_of shard.1
+  Ok (node.0, shard.0, term)
+
 -- the event that words say
 unfoldable pub event_of : Places → List (List ℕ) → Result Event LineRule
 event_of places ws = word_at ws >>= λ w.
-    if bytes_eq w.0 (codes "client") then client_of places w.1
-    else (if bytes_eq w.0 (codes "tick") then tick_of places w.1 else Err rule.Word)
+    if bytes_eq w.0 (codes "cut") then cut_of places w.1
+    else (if bytes_eq w.0 (codes "stop") then (node_of places w.1 >>= λ n. Ok (event.Stop n))
+    else (if bytes_eq w.0 (codes "start") then (node_of places w.1 >>= λ n. Ok (event.Start n))
+    else (if bytes_eq w.0 (codes "lose") then (node_of places w.1 >>= λ n. Ok (event.Lose n))
+    else (if bytes_eq w.0 (codes "fence") then (seat_of places w.1 >>= λ x. Ok (event.Fence x.0 x.1 x.2))
+    else (if bytes_eq w.0 (codes "lead") then (seat_of places w.1 >>= λ x. Ok (event.Lead x.0 x.1 x.2))
+    else (turn_of places ws >>= λ t. Ok (event.Takes t)))))))
 
 -- The event of a line, or the first rule that it breaks: bytes, then the shape of the whole line, then word by word from the left.
 unfoldable pub line_at : Places → List ℕ → Result Event LineRule

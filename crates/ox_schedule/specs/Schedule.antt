@@ -1,5 +1,5 @@
 -- Schedules: which bytes spell one, and else the first bad line and the first rule that it breaks.
-use Rattle.std.specs.Prelude.{◌≡◌, ◌⊎◌, ℕ, ◌+◌, Bool, true, not, ◌==◌, List, [], ◌∷◌, ◌++◌, length, map, codes, decimal, Result, Ok, Err, if◌then◌else◌}
+use Rattle.std.specs.Prelude.{◌≡◌, ◌⊎◌, ℕ, ◌+◌, Bool, true, not, ◌&&◌, ◌==◌, nat_le, Option, Some, None, List, [], ◌∷◌, ◌++◌, length, map, codes, decimal, Result, Ok, Err, if◌then◌else◌}
 use Rattle.std.specs.List.{list_all, onto_first, join_with_byte}
 use Rattle.std.specs.Str.{bytes_eq}
 use Rattle.ox_types.specs.declared.ended.LineRule.{LineRule}
@@ -24,15 +24,29 @@ lines_of (b ∷ bs) = if b == 10 then [] ∷ lines_of bs else onto_first b (line
 
 -- one node, and the shards that the first line says
 abbrev pub places_of : First → Places
-places_of (Solo shards) = record { nodes = 1; shards = shards }
+places_of (Solo shards blocks) = record { nodes = 1; shards = shards }
+
+-- a number of blocks that a replica may have
+abbrev pub is_block_count : ℕ → Bool
+is_block_count n = nat_le 8 n && nat_le n 65536
+
+-- the same of one that may be left out
+abbrev pub is_room : Option ℕ → Bool
+is_room None = true
+is_room (Some n) = is_block_count n
 
 -- until there are more, one shard
 abbrev pub is_first : First → Bool
-is_first (Solo shards) = shards == 1
+is_first (Solo shards blocks) = shards == 1 && is_room blocks
+
+-- the word of a number of blocks, where there is one
+abbrev pub room_words : Option ℕ → List (List ℕ)
+room_words None = []
+room_words (Some n) = decimal n ∷ []
 
 -- the words of the first line
 abbrev pub first_words : First → List (List ℕ)
-first_words (Solo shards) = codes "solo" ∷ decimal shards ∷ []
+first_words (Solo shards blocks) = codes "solo" ∷ decimal shards ∷ room_words blocks
 
 -- a schedule of which each part can be spelt
 pub record IsSchedule (s : Schedule) : Type 0 where
@@ -70,12 +84,25 @@ abbrev pub events_at : Places → ℕ → List (List ℕ) → Result (List Event
 events_at places number [] = Ok []
 events_at places number (line ∷ lines) = event_then (at_line number (line_at places line)) (events_at places (number + 1) lines)
 
+-- how many shards a word says
+unfoldable pub shard_count_of : List ℕ → Result ℕ LineRule
+shard_count_of w = number_of w >>= λ n. if n == 1 then Ok n else Err rule.Number
+
+-- how many blocks a word says
+unfoldable pub block_count_of : List ℕ → Result ℕ LineRule
+block_count_of w = number_of w >>= λ n. if is_block_count n then Ok n else Err rule.Number
+
+-- the words behind `solo`: how many shards, and how many blocks where it says so
+unfoldable pub solo_of : List (List ℕ) → Result First LineRule
+solo_of [] = Err rule.First
+solo_of (s ∷ []) = shard_count_of s >>= λ shards. Ok (Solo shards None)
+solo_of (s ∷ b ∷ []) = shard_count_of s >>= λ shards. block_count_of b >>= λ n. Ok (Solo shards (Some n))
+solo_of (s ∷ b ∷ x ∷ ws) = Err rule.First
+
 -- what the words of the first line say
 unfoldable pub first_of : List (List ℕ) → Result First LineRule
 first_of [] = Err rule.First
-first_of (w ∷ []) = Err rule.First
-first_of (w ∷ n ∷ []) = if bytes_eq w (codes "solo") then (number_of n >>= λ shards. if shards == 1 then Ok (Solo shards) else Err rule.Number) else Err rule.First
-first_of (w ∷ n ∷ x ∷ ws) = Err rule.First
+first_of (w ∷ ws) = if bytes_eq w (codes "solo") then solo_of ws else Err rule.First
 
 -- what the first line says, or the first rule that it breaks
 unfoldable pub first_at : List ℕ → Result First LineRule

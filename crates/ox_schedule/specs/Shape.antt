@@ -63,9 +63,32 @@ client_fits [] = false
 client_fits (node ∷ []) = false
 client_fits (node ∷ shard ∷ ws) = request_fits ws
 
--- the words of an event: behind `tick` a node, a shard and a time
+-- the words of what an actor takes: behind `deliver` a message, behind `tick` a node, a shard and a time
+unfoldable pub turn_fits : List (List ℕ) → Bool
+turn_fits [] = false
+turn_fits (verb ∷ ws) =
+    if bytes_eq verb (codes "client") then client_fits ws
+    else (if bytes_eq verb (codes "deliver") then length ws == 1
+    else (if bytes_eq verb (codes "tick") then length ws == 3 else false))
+
+-- is the word one of what a cut leaves?
+abbrev pub is_image : List ℕ → Bool
+is_image w = bytes_eq w (codes "none") || bytes_eq w (codes "kept") || bytes_eq w (codes "torn")
+
+-- behind `cut`: a number, what is left, and what the actor takes
+abbrev pub cut_fits : List (List ℕ) → Bool
+cut_fits [] = false
+cut_fits (call ∷ []) = false
+cut_fits (call ∷ left ∷ ws) = is_image left && turn_fits ws
+
+-- the words of an event: a cut, a node that stops, starts or is lost, a node, a shard and a term, or what an actor takes
 unfoldable pub event_fits : List (List ℕ) → Bool
 event_fits [] = false
 event_fits (verb ∷ ws) =
-    if bytes_eq verb (codes "client") then client_fits ws
-    else (if bytes_eq verb (codes "tick") then length ws == 3 else false)
+    if bytes_eq verb (codes "cut") then cut_fits ws
+    else (if bytes_eq verb (codes "stop") then length ws == 1
+    else (if bytes_eq verb (codes "start") then length ws == 1
+    else (if bytes_eq verb (codes "lose") then length ws == 1
+    else (if bytes_eq verb (codes "fence") then length ws == 3
+    else (if bytes_eq verb (codes "lead") then length ws == 3
+    else turn_fits (verb ∷ ws))))))

@@ -25,8 +25,12 @@ use Rattle.ox_schedule.specs.declared.schedule.Grouping.{Grouping}
 use Rattle.ox_schedule.specs.declared.schedule.Grouping.TheVariants as grouping
 use Rattle.ox_schedule.specs.declared.schedule.Request.{Request}
 use Rattle.ox_schedule.specs.declared.schedule.Request.TheVariants.{Write, Read}
+use Rattle.ox_schedule.specs.declared.schedule.Image.{Image}
+use Rattle.ox_schedule.specs.declared.schedule.Image.TheVariants as image
+use Rattle.ox_schedule.specs.declared.schedule.Turn.{Turn}
+use Rattle.ox_schedule.specs.declared.schedule.Turn.TheVariants.{Client, Deliver, Tick}
 use Rattle.ox_schedule.specs.declared.schedule.Event.{Event}
-use Rattle.ox_schedule.specs.declared.schedule.Event.TheVariants.{Client, Tick}
+use Rattle.ox_schedule.specs.declared.schedule.Event.TheVariants as event
 use Rattle.ox_schedule.specs.declared.schedule.Places.{Places}
 
 -- ---- bytes and numbers
@@ -271,10 +275,27 @@ abbrev pub is_request : Request → Bool
 is_request (Write g command) = is_command g command
 is_request (Read query) = is_query query
 
+-- the words of what an actor takes
+abbrev pub turn_words : Turn → List (List ℕ)
+turn_words (Client node shard r) = codes "client" ∷ decimal node ∷ decimal shard ∷ request_words r
+turn_words (Deliver message) = codes "deliver" ∷ decimal message ∷ []
+turn_words (Tick node shard ms) = codes "tick" ∷ decimal node ∷ decimal shard ∷ decimal ms ∷ []
+
+-- the word of what a cut leaves
+abbrev pub image_word : Image → List ℕ
+image_word image.Nothing = codes "none"
+image_word image.Kept = codes "kept"
+image_word image.Torn = codes "torn"
+
 -- the words of an event
 abbrev pub event_words : Event → List (List ℕ)
-event_words (Client node shard r) = codes "client" ∷ decimal node ∷ decimal shard ∷ request_words r
-event_words (Tick node shard ms) = codes "tick" ∷ decimal node ∷ decimal shard ∷ decimal ms ∷ []
+event_words (event.Takes t) = turn_words t
+event_words (event.Cut call i t) = codes "cut" ∷ decimal call ∷ image_word i ∷ turn_words t
+event_words (event.Stop node) = codes "stop" ∷ decimal node ∷ []
+event_words (event.Start node) = codes "start" ∷ decimal node ∷ []
+event_words (event.Lose node) = codes "lose" ∷ decimal node ∷ []
+event_words (event.Fence node shard term) = codes "fence" ∷ decimal node ∷ decimal shard ∷ decimal term ∷ []
+event_words (event.Lead node shard term) = codes "lead" ∷ decimal node ∷ decimal shard ∷ decimal term ∷ []
 
 -- the line of an event: its words with one space between two
 unfoldable pub event_line : Event → List ℕ
@@ -288,10 +309,41 @@ is_node p n = nat_le 1 n && nat_le n p.nodes
 abbrev pub is_shard : Places → ℕ → Bool
 is_shard p s = nat_lt s p.shards
 
--- an event at a node and a shard that are there
+-- a node that can be spelt and is there
+abbrev pub names_node : Places → ℕ → Bool
+names_node p n = is_number n && is_node p n
+
+-- the same of a shard
+abbrev pub names_shard : Places → ℕ → Bool
+names_shard p s = is_number s && is_shard p s
+
+-- device calls are counted from 1
+abbrev pub is_call : ℕ → Bool
+is_call n = nat_le 1 n
+
+-- a term is 1 to 2^53
+abbrev pub is_term : ℕ → Bool
+is_term n = nat_le 1 n && nat_le n (2 ^ 53)
+
+-- what an actor takes, at a node and a shard that are there where it names one
+abbrev pub is_turn : Places → Turn → Bool
+is_turn p (Client node shard r) = names_node p node && names_shard p shard && is_request r
+is_turn p (Deliver message) = is_number message
+is_turn p (Tick node shard ms) = names_node p node && names_shard p shard && is_number ms
+
+-- a term that can be spelt, at a node and a shard that are there
+abbrev pub is_seat : Places → ℕ → ℕ → ℕ → Bool
+is_seat p node shard term = names_node p node && names_shard p shard && (is_number term && is_term term)
+
+-- an event at a node and a shard that are there where it names one
 abbrev pub is_event : Places → Event → Bool
-is_event p (Client node shard r) = is_number node && is_node p node && is_number shard && is_shard p shard && is_request r
-is_event p (Tick node shard ms) = is_number node && is_node p node && is_number shard && is_shard p shard && is_number ms
+is_event p (event.Takes t) = is_turn p t
+is_event p (event.Cut call i t) = is_number call && is_call call && is_turn p t
+is_event p (event.Stop node) = names_node p node
+is_event p (event.Start node) = names_node p node
+is_event p (event.Lose node) = names_node p node
+is_event p (event.Fence node shard term) = is_seat p node shard term
+is_event p (event.Lead node shard term) = is_seat p node shard term
 
 -- the line spells the event, among these places
 pub record SpellsEvent (places : Places) (line : List ℕ) (e : Event) : Type 0 where

@@ -9,8 +9,8 @@ ghost use Rattle.ox_schedule.specs.declared.schedule.Schedule.{Schedule};
 ghost use Rattle.ox_schedule.specs.Shape.{event_fits};
 ghost use Rattle.ox_schedule.specs.Spelling.{SpellsEvent, is_word, words_of};
 ghost use Rattle.ox_schedule.specs.Reading.{line_at};
-ghost use Rattle.ox_schedule.specs.Lawful.{asks_encodable};
-ghost use Rattle.ox_schedule.specs.Schedule.{SpellsSchedule, IsFirstBadLine, schedule_at};
+ghost use Rattle.ox_schedule.specs.Lawful.{asks_encodable, is_of_one_node, blocks_fit};
+ghost use Rattle.ox_schedule.specs.Schedule.{SpellsSchedule, IsSchedule, IsFirstBadLine, schedule_at};
 
 /// A line is read as an event exactly where it spells the event.
 pub fn law_line()
@@ -42,4 +42,11 @@ pub fn law_one_schedule()
 /// command may be tested by `check` of `ox_ops`, and it and a query can be encoded.
 pub fn law_encodable()
     ensures { (bytes : List ℕ) (s : Schedule) → SpellsSchedule bytes s → length bytes < 2 ^ 32 → list_all asks_encodable s.events ≡ true }
+{}
+
+/// Each event of a schedule is at node 1 and shard 0, where it names them, and its numbers are in their range; so are the
+/// blocks, where the first line says how many. Of what bytes spell, `valid` of `SpellsSchedule` says that it is a schedule.
+pub fn law_places()
+    ensures events { (s : Schedule) → IsSchedule s → list_all is_of_one_node s.events ≡ true }
+    ensures blocks { (s : Schedule) → IsSchedule s → blocks_fit s.first ≡ true }
 {}

@@ -2,6 +2,7 @@
 #![tactic(auto)]
 
 mod escape;
+mod event;
 mod fault;
 mod field;
 mod law;
@@ -15,10 +16,11 @@ mod writer;
 
 pub use fault::ScheduleFault;
 pub use law::{
-    law_encodable, law_first_bad_line, law_line, law_one_schedule, law_rules, law_schedule,
+    law_encodable, law_first_bad_line, law_line, law_one_schedule, law_places, law_rules,
+    law_schedule,
 };
 pub use reading::read_schedule;
-pub use schedule::{Event, First, Grouping, Places, Request, Schedule};
+pub use schedule::{Event, First, Grouping, Image, Places, Request, Schedule, Turn};
 pub use writer::{add_bytes, add_event, add_key, add_range, add_value};
 
 #[cfg(test)]

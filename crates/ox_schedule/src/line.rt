@@ -1,4 +1,4 @@
-// Requests, events and lines.
+// Requests and lines.
 ghost use Rattle.std.specs.Prelude.{◌≡◌, ◌==◌, ℕ, List, map, IfOk};
 ghost use Rattle.std.specs.List.{list_all};
 ghost use Rattle.ox_ops.specs.declared.write.ShardCommand.TheVariants as command;
@@ -7,15 +7,16 @@ ghost use Rattle.ox_schedule.specs.declared.schedule.Request.TheVariants.{Write}
 ghost use Rattle.ox_schedule.specs.Outcome.{Gives};
 ghost use Rattle.ox_schedule.specs.Shape.{ops_in};
 ghost use Rattle.ox_schedule.specs.Spelling.{words_of, is_printable, is_word as is_word_text};
-ghost use Rattle.ox_schedule.specs.Reading.{empty_batch, op_onto, ops_onto, batch_of, alone_of, request_of, node_at, shard_at, client_of, tick_of, event_of, line_at};
+ghost use Rattle.ox_schedule.specs.Reading.{empty_batch, op_onto, ops_onto, batch_of, alone_of, request_of, line_at};
 
+use crate::event::read_event;
 use crate::fault::LineFault;
 use crate::field::{
     read_delete, read_ends, read_get, read_notices, read_put, read_range, read_single,
 };
 use crate::schedule::{Event, Grouping, Places, Request};
 use crate::shape::{first_op, is_event};
-use crate::word::{is, next_word, read_number};
+use crate::word::{is, next_word};
 use ox_ops::{ShardCommand, ShardQuery, WriteBatch};
 use ox_types::{LineRule, List, NoMemory};
 use std::alloc::Global;
@@ -116,8 +117,9 @@ fn read_alone(alloc: Global, words: &[&[u8]]) -> Result<Request, LineFault>
     Ok(write_request(Grouping::Alone, batch))
 }
 
+/// The request that words say.
 #[tactic(auto, unfolding(crate::specs::Reading::request_of))]
-fn read_request(alloc: Global, words: &[&[u8]]) -> Result<Request, LineFault>
+pub fn read_request(alloc: Global, words: &[&[u8]]) -> Result<Request, LineFault>
     ensures { Gives (λ x. x) result (request_of (map (λ w. w.now) words.now)) }
 {
     let (verb, rest) = next_word(words)?;
@@ -136,74 +138,6 @@ fn read_request(alloc: Global, words: &[&[u8]]) -> Result<Request, LineFault>
         return Ok(Request::Read(ShardQuery::Scan { range, by }));
     }
     read_alone(alloc, words)
-}
-
-#[tactic(auto, unfolding(crate::specs::Reading::node_at))]
-fn node_field<'a, 'b>(
-    places: Places,
-    words: &'b [&'a [u8]],
-) -> Result<(u64, &'b [&'a [u8]]), LineFault>
-    ensures { Gives (λ x. (x.0, map (λ w. w.now) x.1.now)) result (node_at places (map (λ w. w.now) words.now)) }
-{
-    let (word, rest) = next_word(words)?;
-    let node = read_number(word)?;
-    if node < 1 || node > places.nodes {
-        return Err(LineFault::Rule(LineRule::Name));
-    }
-    Ok((node, rest))
-}
-
-#[tactic(auto, unfolding(crate::specs::Reading::shard_at))]
-fn shard_field<'a, 'b>(
-    places: Places,
-    words: &'b [&'a [u8]],
-) -> Result<(u64, &'b [&'a [u8]]), LineFault>
-    ensures { Gives (λ x. (x.0, map (λ w. w.now) x.1.now)) result (shard_at places (map (λ w. w.now) words.now)) }
-{
-    let (word, rest) = next_word(words)?;
-    let shard = read_number(word)?;
-    if shard >= places.shards {
-        return Err(LineFault::Rule(LineRule::Name));
-    }
-    Ok((shard, rest))
-}
-
-#[tactic(auto, unfolding(crate::specs::Reading::client_of))]
-fn read_client(alloc: Global, places: Places, words: &[&[u8]]) -> Result<Event, LineFault>
-    ensures { Gives (λ x. x) result (client_of places (map (λ w. w.now) words.now)) }
-{
-    let (node, rest) = node_field(places, words)?;
-    let (shard, rest) = shard_field(places, rest)?;
-    let request = read_request(alloc, rest)?;
-    Ok(Event::Client {
-        node,
-        shard,
-        request,
-    })
-}
-
-#[tactic(auto, unfolding(crate::specs::Reading::tick_of))]
-fn read_tick(places: Places, words: &[&[u8]]) -> Result<Event, LineFault>
-    ensures { Gives (λ x. x) result (tick_of places (map (λ w. w.now) words.now)) }
-{
-    let (node, rest) = node_field(places, words)?;
-    let (shard, rest) = shard_field(places, rest)?;
-    let ms = read_single(rest)?;
-    Ok(Event::Tick { node, shard, ms })
-}
-
-#[tactic(auto, unfolding(crate::specs::Reading::event_of))]
-fn read_event(alloc: Global, places: Places, words: &[&[u8]]) -> Result<Event, LineFault>
-    ensures { Gives (λ x. x) result (event_of places (map (λ w. w.now) words.now)) }
-{
-    let (verb, rest) = next_word(words)?;
-    if is(verb, b"client") {
-        return read_client(alloc, places, rest);
-    }
-    if is(verb, b"tick") {
-        return read_tick(places, rest);
-    }
-    Err(LineFault::Rule(LineRule::Word))
 }
 
 fn is_printable_text(text: &[u8]) -> bool

@@ -3,7 +3,7 @@ ghost use Rattle.std.specs.Prelude.{◌≡◌, ◌<◌, ◌≤◌, ◌∷◌, �
 ghost use Rattle.ox_schedule.specs.declared.schedule.Schedule.{Schedule};
 ghost use Rattle.ox_schedule.specs.Outcome.{Gives};
 ghost use Rattle.ox_schedule.specs.Reading.{line_at};
-ghost use Rattle.ox_schedule.specs.Schedule.{Answers, SpellsSchedule, IsFaultOf, at_line, events_at, first_of, first_at, lines_of, places_of, schedule_at};
+ghost use Rattle.ox_schedule.specs.Schedule.{Answers, SpellsSchedule, IsFaultOf, at_line, events_at, shard_count_of, block_count_of, solo_of, first_of, first_at, lines_of, places_of, schedule_at};
 
 use crate::fault::{LineFault, ScheduleFault};
 use crate::line::{are_words, read_line, split_words};
@@ -30,24 +30,61 @@ fn first_line(text: &[u8]) -> (&[u8], &[u8])
     }
 }
 
+#[tactic(auto, unfolding(crate::specs::Schedule::shard_count_of))]
+fn read_shard_count(word: &[u8]) -> Result<u64, LineFault>
+    ensures { Gives (λ n. n) result (shard_count_of word.now) }
+{
+    let shards = read_number(word)?;
+    if shards != 1 {
+        return Err(LineFault::Rule(LineRule::Number));
+    }
+    Ok(shards)
+}
+
+#[tactic(auto, unfolding(crate::specs::Schedule::block_count_of))]
+fn read_block_count(word: &[u8]) -> Result<u64, LineFault>
+    ensures { Gives (λ n. n) result (block_count_of word.now) }
+{
+    let blocks = read_number(word)?;
+    if blocks < 8 || blocks > 65_536 {
+        return Err(LineFault::Rule(LineRule::Number));
+    }
+    Ok(blocks)
+}
+
+#[tactic(auto, unfolding(crate::specs::Schedule::solo_of))]
+fn read_solo(words: &[&[u8]]) -> Result<First, LineFault>
+    ensures { Gives (λ x. x) result (solo_of (map (λ w. w.now) words.now)) }
+{
+    let Some((shards, rest)) = first_word(words) else {
+        return Err(LineFault::Rule(LineRule::First));
+    };
+    let Some((blocks, rest)) = first_word(rest) else {
+        let shards = read_shard_count(shards)?;
+        return Ok(First::Solo {
+            shards,
+            blocks: None,
+        });
+    };
+    if first_word(rest).is_some() {
+        return Err(LineFault::Rule(LineRule::First));
+    }
+    let shards = read_shard_count(shards)?;
+    let blocks = Some(read_block_count(blocks)?);
+    Ok(First::Solo { shards, blocks })
+}
+
 #[tactic(auto, unfolding(crate::specs::Schedule::first_of))]
 fn read_first_words(words: &[&[u8]]) -> Result<First, LineFault>
     ensures { Gives (λ x. x) result (first_of (map (λ w. w.now) words.now)) }
 {
-    let Some((solo, rest)) = first_word(words) else {
+    let Some((verb, rest)) = first_word(words) else {
         return Err(LineFault::Rule(LineRule::First));
     };
-    let Some((number, rest)) = first_word(rest) else {
-        return Err(LineFault::Rule(LineRule::First));
-    };
-    if first_word(rest).is_some() || !is(solo, b"solo") {
+    if !is(verb, b"solo") {
         return Err(LineFault::Rule(LineRule::First));
     }
-    let shards = read_number(number)?;
-    if shards != 1 {
-        return Err(LineFault::Rule(LineRule::Number));
-    }
-    Ok(First::Solo { shards })
+    read_solo(rest)
 }
 
 #[tactic(auto, unfolding(crate::specs::Schedule::first_at))]
@@ -111,7 +148,7 @@ fn read_all(alloc: Global, bytes: &[u8]) -> Result<Schedule, ScheduleFault>
     }
     let (line, rest) = first_line(bytes);
     let first = first_in(alloc, line)?;
-    let First::Solo { shards } = first;
+    let First::Solo { shards, .. } = first;
     let events = read_events(alloc, Places { nodes: 1, shards }, rest)?;
     Ok(Schedule { first, events })
 }

@@ -3,7 +3,7 @@ ghost use Rattle.std.specs.Prelude.{◌≡◌, ◌∷◌, ◌<◌, map, length, 
 ghost use Rattle.std.specs.Option.{option_map};
 ghost use Rattle.std.specs.List.{list_all};
 ghost use Rattle.std.specs.Str.{bytes_eq};
-ghost use Rattle.ox_schedule.specs.Shape.{ops_in, ops_left, is_compare as is_compare_word, write_fits, op_fits, get_fits, range_fits, single_fits, request_fits, client_fits, event_fits};
+ghost use Rattle.ox_schedule.specs.Shape.{ops_in, ops_left, is_compare as is_compare_word, write_fits, op_fits, get_fits, range_fits, single_fits, request_fits, client_fits, turn_fits, is_image as is_image_word, cut_fits, event_fits};
 
 use crate::word::{first_word, is};
 
@@ -131,6 +131,40 @@ fn is_client(words: &[&[u8]]) -> bool
     is_request(rest)
 }
 
+#[tactic(auto, unfolding(crate::specs::Shape::turn_fits))]
+fn is_turn(words: &[&[u8]]) -> bool
+    ensures { result ≡ turn_fits (map (λ w. w.now) words.now) }
+{
+    let Some((verb, rest)) = first_word(words) else {
+        return false;
+    };
+    if is(verb, b"client") {
+        return is_client(rest);
+    }
+    if is(verb, b"deliver") {
+        return rest.len() == 1;
+    }
+    is(verb, b"tick") && rest.len() == 3
+}
+
+fn is_image(word: &[u8]) -> bool
+    ensures { result ≡ is_image_word word.now }
+{
+    is(word, b"none") || is(word, b"kept") || is(word, b"torn")
+}
+
+fn is_cut(words: &[&[u8]]) -> bool
+    ensures { result ≡ cut_fits (map (λ w. w.now) words.now) }
+{
+    let Some((_, rest)) = first_word(words) else {
+        return false;
+    };
+    let Some((image, rest)) = first_word(rest) else {
+        return false;
+    };
+    is_image(image) && is_turn(rest)
+}
+
 /// Whether a line with these words can be an event, whatever its numbers, names, keys, values and options.
 #[tactic(auto, unfolding(crate::specs::Shape::event_fits))]
 pub fn is_event(words: &[&[u8]]) -> bool
@@ -139,8 +173,14 @@ pub fn is_event(words: &[&[u8]]) -> bool
     let Some((verb, rest)) = first_word(words) else {
         return false;
     };
-    if is(verb, b"client") {
-        return is_client(rest);
+    if is(verb, b"cut") {
+        return is_cut(rest);
     }
-    is(verb, b"tick") && rest.len() == 3
+    if is(verb, b"stop") || is(verb, b"start") || is(verb, b"lose") {
+        return rest.len() == 1;
+    }
+    if is(verb, b"fence") || is(verb, b"lead") {
+        return rest.len() == 3;
+    }
+    is_turn(words)
 }

@@ -43,6 +43,37 @@ fn events_are_written_as_they_are_read(rt: HostRuntime) -> Result<(), Fail> {
 }
 
 #[test]
+fn turns_cuts_and_terms_are_written_as_they_are_read(rt: HostRuntime) -> Result<(), Fail> {
+    let lines =
+        b"deliver 0\ndeliver 18446744073709551615\nstop 1\nstart 1\nlose 1\nfence 1 0 1\nfence 1 0 9007199254740992\nlead 1 0 1\nlead 1 0 9007199254740992\ncut 1 none client 1 0 put a x\ncut 18446744073709551615 kept deliver 7\ncut 2 torn tick 1 0 5000\ncut 3 none client 1 0 batch put a * expect=0 + delete c\n";
+    let mut text = Octets::from_slice(rt.alloc(), b"solo 1 1024\n")?;
+    text.extend(lines.as_slice())?;
+    let again = written(rt.alloc(), text.as_slice())?;
+    assert_eq!(rt; again.as_slice(), lines.as_slice());
+    Ok(())
+}
+
+/// The blocks of a first line that is good.
+fn blocks_of(alloc: Global, text: &[u8]) -> Result<Option<u64>, ScheduleFault> {
+    let schedule = read_schedule(alloc, text)?;
+    let First::Solo { blocks, .. } = schedule.first;
+    Ok(blocks)
+}
+
+#[test]
+fn blocks_at_their_limits(rt: HostRuntime) -> Result<(), Fail> {
+    let cases: [(&[u8], Option<u64>); 3] = [
+        (b"solo 1", None),
+        (b"solo 1 8", Some(8)),
+        (b"solo 1 65536\n", Some(65_536)),
+    ];
+    for (text, blocks) in cases {
+        assert_eq!(rt; blocks_of(rt.alloc(), text)?, blocks);
+    }
+    Ok(())
+}
+
+#[test]
 fn keys_and_values_are_spelt(rt: HostRuntime) -> Result<(), Fail> {
     let key = Key::try_new(Vec::from_slice(rt.alloc(), b"a b~/%")?)?;
     let value = Value::try_new(Vec::new(rt.alloc()))?;
@@ -56,11 +87,17 @@ fn keys_and_values_are_spelt(rt: HostRuntime) -> Result<(), Fail> {
 
 #[test]
 fn bad_first_lines(rt: HostRuntime) -> Result<(), Fail> {
-    let cases: [(&[u8], LineRule); 14] = [
+    let cases: [(&[u8], LineRule); 20] = [
         (b"", LineRule::First),
         (b"\n", LineRule::First),
         (b"solo", LineRule::First),
-        (b"solo 1 8", LineRule::First),
+        (b"solo x 8 9", LineRule::First),
+        (b"group 1 8", LineRule::First),
+        (b"solo 1 7", LineRule::Number),
+        (b"solo 1 65537", LineRule::Number),
+        (b"solo 1 08", LineRule::Number),
+        (b"solo 0 8", LineRule::Number),
+        (b"solo 2 8", LineRule::Number),
         (b"cluster 1 1 1", LineRule::First),
         (b"client 1 0 get equal a", LineRule::First),
         (b"Solo 1", LineRule::First),
@@ -124,6 +161,87 @@ fn bad_words(rt: HostRuntime) -> Result<(), Fail> {
             b"client 1 0 batch deleterange a b + delete a",
             LineRule::Order,
         ),
+    ];
+    for (line, rule) in cases {
+        assert_eq!(rt; fault_behind(rt.alloc(), line)?, Some((2, rule)));
+    }
+    Ok(())
+}
+
+#[test]
+fn bad_words_of_turns_and_cuts(rt: HostRuntime) -> Result<(), Fail> {
+    let cases: [(&[u8], LineRule); 30] = [
+        (b"frob", LineRule::Word),
+        (b"Stop 1", LineRule::Word),
+        (b"gather 1 0 put a x & put b y", LineRule::Word),
+        (b"coord start 1", LineRule::Word),
+        (b"deliver", LineRule::Word),
+        (b"deliver x 1", LineRule::Word),
+        (b"stop", LineRule::Word),
+        (b"stop x 0", LineRule::Word),
+        (b"start", LineRule::Word),
+        (b"start x 0", LineRule::Word),
+        (b"lose", LineRule::Word),
+        (b"lose x 0", LineRule::Word),
+        (b"fence x 0", LineRule::Word),
+        (b"fence x 0 1 1", LineRule::Word),
+        (b"lead x 0", LineRule::Word),
+        (b"lead x 0 1 1", LineRule::Word),
+        (b"cut", LineRule::Word),
+        (b"cut 0", LineRule::Word),
+        (b"cut 0 none", LineRule::Word),
+        (b"cut 0 Torn deliver 1", LineRule::Word),
+        (b"cut 0 deliver 1", LineRule::Word),
+        (b"cut 0 none stop 1", LineRule::Word),
+        (b"cut 0 none start 1", LineRule::Word),
+        (b"cut 0 none lose 1", LineRule::Word),
+        (b"cut 0 none fence 1 0 1", LineRule::Word),
+        (b"cut 0 none lead 1 0 1", LineRule::Word),
+        (b"cut 0 none cut 1 none deliver 1", LineRule::Word),
+        (b"cut 0 none client x 0 frob", LineRule::Word),
+        (b"cut 0 none tick 1 0", LineRule::Word),
+        (b"cut 0 kept coord tick 1 0 5", LineRule::Word),
+    ];
+    for (line, rule) in cases {
+        assert_eq!(rt; fault_behind(rt.alloc(), line)?, Some((2, rule)));
+    }
+    Ok(())
+}
+
+#[test]
+fn bad_numbers_and_names_of_turns_and_cuts(rt: HostRuntime) -> Result<(), Fail> {
+    let cases: [(&[u8], LineRule); 31] = [
+        (b"deliver 01", LineRule::Number),
+        (b"deliver 18446744073709551616", LineRule::Number),
+        (b"stop 01", LineRule::Number),
+        (b"stop 0", LineRule::Name),
+        (b"stop 2", LineRule::Name),
+        (b"start x", LineRule::Number),
+        (b"start 2", LineRule::Name),
+        (b"lose 18446744073709551616", LineRule::Number),
+        (b"lose 18446744073709551615", LineRule::Name),
+        (b"fence x 1 0", LineRule::Number),
+        (b"fence 2 x 0", LineRule::Name),
+        (b"fence 1 x 0", LineRule::Number),
+        (b"fence 1 1 0", LineRule::Name),
+        (b"fence 1 0 x", LineRule::Number),
+        (b"fence 1 0 0", LineRule::Number),
+        (b"fence 1 0 9007199254740993", LineRule::Number),
+        (b"lead x 1 0", LineRule::Number),
+        (b"lead 2 x 0", LineRule::Name),
+        (b"lead 1 x 0", LineRule::Number),
+        (b"lead 1 1 0", LineRule::Name),
+        (b"lead 1 0 01", LineRule::Number),
+        (b"lead 1 0 0", LineRule::Number),
+        (b"lead 1 0 9007199254740993", LineRule::Number),
+        (b"cut 0 none deliver 1", LineRule::Number),
+        (b"cut x none tick 2 0 1", LineRule::Number),
+        (b"cut 18446744073709551616 torn deliver 1", LineRule::Number),
+        (b"cut 0 kept client 2 0 put % x", LineRule::Number),
+        (b"cut 1 kept client 2 0 put % x", LineRule::Name),
+        (b"cut 1 kept client 1 0 put % x", LineRule::Key),
+        (b"cut 1 torn deliver x", LineRule::Number),
+        (b"cut 1 torn tick 1 1 x", LineRule::Name),
     ];
     for (line, rule) in cases {
         assert_eq!(rt; fault_behind(rt.alloc(), line)?, Some((2, rule)));

@@ -1,12 +1,11 @@
 // The line of an event, word by word, each word behind a space; and the spelling of keys and values.
-ghost use Rattle.std.specs.Prelude.{◌≡◌, ◌||◌, ◌++◌, ◌∷◌, [], OnOk, OnErr, MatchOption, map, decimal, codes};
+ghost use Rattle.std.specs.Prelude.{◌≡◌, ◌||◌, ◌++◌, ◌∷◌, [], OnOk, OnErr, MatchOption, map, drop, decimal, codes};
 ghost use Rattle.std.specs.List.{flat_map};
-ghost use Rattle.ox_schedule.specs.Spelling.{spelt, value_word, expect_words, session_words, deltas_words, entry_word, by_words, put_options, lo_word, hi_word, range_words, put_op, delete_op, range_op, joined, batch_ops, grouping_words, command_words, compare_word, query_words, request_words, event_line};
-ghost use Rattle.ox_schedule.specs.declared.schedule.Event.TheVariants.{Client, Tick};
+ghost use Rattle.ox_schedule.specs.Spelling.{spelt, value_word, expect_words, session_words, deltas_words, entry_word, by_words, put_options, lo_word, hi_word, range_words, put_op, delete_op, range_op, joined, batch_ops, grouping_words, command_words, compare_word, query_words, request_words, turn_words, image_word, event_words, event_line};
 ghost use Rattle.ox_schedule.specs.Line.{spaced, behind_comma, has_some, plus_words, ops_behind};
 
 use crate::escape::spelling;
-use crate::schedule::{Event, Grouping, Request};
+use crate::schedule::{Event, Grouping, Image, Request, Turn};
 use itoa::Buffer;
 use ox_ops::{
     Compare, Delete, Expect, Hi, IndexEntry, KeyRange, Lo, Put, ShardCommand, ShardQuery,
@@ -394,40 +393,92 @@ fn add_request(alloc: Global, text: &mut Octets, request: &Request) -> Result<()
     }
 }
 
-fn add_client(
-    alloc: Global,
-    text: &mut Octets,
-    node: u64,
-    shard: u64,
-    request: &Request,
-) -> Result<(), NoMemory>
-    ensures { OnOk result (text.new ≡ text.old ++ event_line (Client node shard request.now)) }
+fn add_place(text: &mut Octets, node: u64, shard: u64) -> Result<(), NoMemory>
+    ensures { OnOk result (text.new ≡ text.old ++ spaced (decimal node ∷ decimal shard ∷ [])) }
 {
-    text.extend(b"client")?;
     add_number(text, node)?;
-    add_number(text, shard)?;
-    add_request(alloc, text, request)
+    add_number(text, shard)
 }
 
-fn add_tick(text: &mut Octets, node: u64, shard: u64, ms: u64) -> Result<(), NoMemory>
-    ensures { OnOk result (text.new ≡ text.old ++ event_line (Tick node shard ms)) }
+fn add_turn(alloc: Global, text: &mut Octets, turn: &Turn) -> Result<(), NoMemory>
+    ensures { OnOk result (text.new ≡ text.old ++ spaced (turn_words turn.now)) }
 {
-    text.extend(b"tick")?;
-    add_number(text, node)?;
-    add_number(text, shard)?;
-    add_number(text, ms)
-}
-
-fn add_line(alloc: Global, text: &mut Octets, event: &Event) -> Result<(), NoMemory>
-    ensures { OnOk result (text.new ≡ text.old ++ event_line event.now) }
-{
-    match event {
-        Event::Client {
+    match turn {
+        Turn::Client {
             node,
             shard,
             request,
-        } => add_client(alloc, text, *node, *shard, request),
-        Event::Tick { node, shard, ms } => add_tick(text, *node, *shard, *ms),
+        } => {
+            text.extend(b" client")?;
+            add_place(text, *node, *shard)?;
+            add_request(alloc, text, request)
+        }
+        Turn::Deliver { message } => {
+            text.extend(b" deliver")?;
+            add_number(text, *message)
+        }
+        Turn::Tick { node, shard, ms } => {
+            text.extend(b" tick")?;
+            add_place(text, *node, *shard)?;
+            add_number(text, *ms)
+        }
+    }
+}
+
+fn add_image(text: &mut Octets, image: Image) -> Result<(), NoMemory>
+    ensures { OnOk result (text.new ≡ text.old ++ spaced (image_word image ∷ [])) }
+{
+    match image {
+        Image::Nothing => text.extend(b" none"),
+        Image::Kept => text.extend(b" kept"),
+        Image::Torn => text.extend(b" torn"),
+    }
+}
+
+/// The words of an event, each behind a space.
+fn add_words(alloc: Global, text: &mut Octets, event: &Event) -> Result<(), NoMemory>
+    ensures { OnOk result (text.new ≡ text.old ++ spaced (event_words event.now)) }
+{
+    match event {
+        Event::Takes(turn) => add_turn(alloc, text, turn),
+        Event::Cut { call, image, turn } => {
+            text.extend(b" cut")?;
+            add_number(text, *call)?;
+            add_image(text, *image)?;
+            add_turn(alloc, text, turn)
+        }
+        Event::Stop { node } => {
+            text.extend(b" stop")?;
+            add_number(text, *node)
+        }
+        Event::Start { node } => {
+            text.extend(b" start")?;
+            add_number(text, *node)
+        }
+        Event::Lose { node } => {
+            text.extend(b" lose")?;
+            add_number(text, *node)
+        }
+        Event::Fence { node, shard, term } => {
+            text.extend(b" fence")?;
+            add_place(text, *node, *shard)?;
+            add_number(text, *term)
+        }
+        Event::Lead { node, shard, term } => {
+            text.extend(b" lead")?;
+            add_place(text, *node, *shard)?;
+            add_number(text, *term)
+        }
+    }
+}
+
+/// What stands behind the first byte.
+fn after_first(text: &[u8]) -> &[u8]
+    ensures { result.now ≡ drop 1 text.now }
+{
+    match text {
+        [] => &[],
+        [_, rest @ ..] => rest,
     }
 }
 
@@ -438,6 +489,6 @@ pub fn add_event(alloc: Global, text: &mut Octets, event: &Event) -> Result<(), 
     ensures err { OnErr result (text.new ≡ text.old) }
 {
     let mut line = Octets::new(alloc);
-    add_line(alloc, &mut line, event)?;
-    text.extend(line.as_slice())
+    add_words(alloc, &mut line, event)?;
+    text.extend(after_first(line.as_slice()))
 }
