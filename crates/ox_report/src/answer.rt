@@ -161,7 +161,8 @@ fn add_notice_items(alloc: Global, text: &mut Octets, items: &[NoticeItem]) -> R
 
 // ---- answers
 
-fn write_answer(alloc: Global, text: &mut Octets, answer: &ShardAnswer) -> Result<(), NoMemory>
+/// The text of an answer, as `add_answer` adds it; where memory runs out, a part of it may be there.
+pub fn write_answer(alloc: Global, text: &mut Octets, answer: &ShardAnswer) -> Result<(), NoMemory>
     ensures { OnOk result (text.new ≡ text.old ++ answer_text answer.now) }
 {
     match answer {

@@ -1,17 +1,32 @@
 // Numbers behind spaces.
-ghost use Rattle.std.specs.Prelude.{◌≡◌, ◌++◌, OnOk};
+ghost use Rattle.std.specs.Prelude.{◌≡◌, ◌++◌, OnOk, decimal};
 ghost use Rattle.ox_report.specs.Field.{field, meta_fields};
 
 use itoa::Buffer;
 use ox_ops::Meta;
 use ox_types::{NoMemory, Octets};
 
+/// A number.
+pub fn add_number(text: &mut Octets, number: u64) -> Result<(), NoMemory>
+    ensures { OnOk result (text.new ≡ text.old ++ decimal number) }
+{
+    text.extend(Buffer::new().format(number).as_bytes())
+}
+
+/// A word and a number, with nothing between them.
+pub fn add_joined(text: &mut Octets, word: &[u8], number: u64) -> Result<(), NoMemory>
+    ensures { OnOk result (text.new ≡ text.old ++ (word.now ++ decimal number)) }
+{
+    text.extend(word)?;
+    add_number(text, number)
+}
+
 /// A number behind a space.
 pub fn add_field(text: &mut Octets, number: u64) -> Result<(), NoMemory>
     ensures { OnOk result (text.new ≡ text.old ++ field number) }
 {
     text.extend(b" ")?;
-    text.extend(Buffer::new().format(number).as_bytes())
+    add_number(text, number)
 }
 
 /// A word and a number.

@@ -39,15 +39,23 @@ fn add_rule(text: &mut Octets, rule: Rule) -> Result<(), NoMemory>
     }
 }
 
+/// The seat's name.
+pub fn add_seat_name(text: &mut Octets, seat: Seat) -> Result<(), NoMemory>
+    ensures { OnOk result (text.new ≡ text.old ++ seat_name seat) }
+{
+    match seat {
+        Seat::Fenced => text.extend(b"fenced"),
+        Seat::Attached => text.extend(b"attached"),
+        Seat::Led => text.extend(b"led"),
+    }
+}
+
 /// The seat's name behind a space.
 fn add_seat(text: &mut Octets, seat: Seat) -> Result<(), NoMemory>
     ensures { OnOk result (text.new ≡ text.old ++ behind_space (seat_name seat)) }
 {
-    match seat {
-        Seat::Fenced => text.extend(b" fenced"),
-        Seat::Attached => text.extend(b" attached"),
-        Seat::Led => text.extend(b" led"),
-    }
+    text.extend(b" ")?;
+    add_seat_name(text, seat)
 }
 
 fn add_bad(text: &mut Octets, bad: Bad) -> Result<(), NoMemory>
@@ -104,7 +112,8 @@ fn add_recovering(text: &mut Octets, term: Term, begin: u64, commit: u64) -> Res
     add_field(text, commit)
 }
 
-fn write_refusal(text: &mut Octets, refusal: &Refusal) -> Result<(), NoMemory>
+/// The text of a refusal, as `add_refusal` adds it; where memory runs out, a part of it may be there.
+pub fn write_refusal(text: &mut Octets, refusal: &Refusal) -> Result<(), NoMemory>
     ensures { OnOk result (text.new ≡ text.old ++ refusal_text refusal.now) }
 {
     match refusal {

@@ -60,7 +60,8 @@ fn write_others(alloc: Global, text: &mut Octets, replies: &[OpReply]) -> Result
     Ok(())
 }
 
-fn write_replies(alloc: Global, text: &mut Octets, reply: &ShardReply) -> Result<(), NoMemory>
+/// The text of the replies, as `add_replies` adds it; where memory runs out, a part of it may be there.
+pub fn write_replies(alloc: Global, text: &mut Octets, reply: &ShardReply) -> Result<(), NoMemory>
     ensures { OnOk result (text.new ≡ text.old ++ replies_text reply.now) }
 {
     match reply.ops.as_slice() {
