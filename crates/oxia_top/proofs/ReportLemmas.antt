@@ -1,100 +1,121 @@
 -- One event more: the text so far and that of what is left.
-use Rattle.std.specs.List.{list_all}
-use Rattle.std.proofs.Common.{◌≡◌, ◌∙◌, ℕ, ◌+◌, ◌<◌, ◌≤◌, List, [], ◌∷◌, ◌++◌, length, true, refl, sym, ap, arith, append_assoc, append-nil}
+use Rattle.std.specs.List.{list_all, flat_map}
+use Rattle.std.proofs.Common.{◌≡◌, ◌∙◌, ℕ, ◌+◌, ◌<◌, Bool, true, List, [], ◌∷◌, ◌++◌, length, map, refl, sym, ap, subst, arith, append_assoc, append-nil}
 use Rattle.ox_schedule.specs.declared.schedule.Event.{Event}
-use Rattle.ox_schedule.specs.declared.schedule.Places.{Places}
 use Rattle.ox_schedule.specs.declared.schedule.Schedule.{Schedule}
-use Rattle.ox_schedule.specs.Spelling.{is_event}
+use Rattle.ox_schedule.specs.Lawful.{asks_encodable, is_of_one_node}
 use Rattle.ox_ops.specs.State.{ShardState}
-use Rattle.oxia_top.specs.Shard.{shard_meaning}
-use Rattle.oxia_top.specs.World.{World, happens, run_from, run_of, world_after, opening_world}
-use Rattle.ox_schedule.specs.Lawful.{asks_encodable}
-use Rattle.oxia_top.specs.Origins.{AreInStep}
-use Rattle.oxia_top.specs.Report.{moment_text, moments_text, end_text, history_text, report_of}
-use Rattle.oxia_top.proofs.LegalLemmas.{IsSound, shard_named, opening_sound, next_sound, longer_by_one, arrivals_most}
-use Rattle.oxia_top.proofs.ScheduleLemmas.{both, shard_is_zero}
+use Rattle.ox_meaning.specs.Shard.{shard_meaning}
+use Rattle.ox_report.specs.Effect.{effect_line}
+use Rattle.ox_safety.specs.Event.{Event as HappensNext, Effect}
+use Rattle.ox_safety.specs.World.{World, opening_world}
+use Rattle.ox_safety.specs.Run.{AreOfOneNode, happens, run_from, run_of, world_after}
+use Rattle.ox_safety.specs.Origins.{AreInStep}
+use Rattle.oxia_top.specs.Events.{event_of}
+use Rattle.oxia_top.specs.Report.{numbered_line, moment_text, moments_text, end_text, report_of, blocks_of, events_of, last_world}
+use Rattle.oxia_top.specs.Running.{Running, Follows}
+use Rattle.oxia_top.proofs.ScheduleLemmas.{both, all_there}
 
 -- what the loop over the events keeps, with the events that are left
-pub record Tells (places : Places) (items rest : List Event) (number : ℕ) (text : List ℕ) (w : World ShardState) : Type 0 where
-  pub told : text ++ moments_text (number + 1) (run_from shard_meaning w rest) ≡ moments_text 1 (run_of shard_meaning items)
-  pub last : world_after shard_meaning w rest ≡ world_after shard_meaning (opening_world shard_meaning) items
-  pub lawful : list_all (is_event places) rest ≡ true
+pub record Tells (blocks : ℕ) (items rest : List Event) (number : ℕ) (text : List ℕ) (w : World ShardState) : Type 0 where
+  pub told : text ++ moments_text (number + 1) rest (run_from shard_meaning blocks w (map event_of rest)) ≡ moments_text 1 items (run_of shard_meaning blocks (map event_of items))
+  pub last : world_after shard_meaning blocks w (map event_of rest) ≡ world_after shard_meaning blocks (opening_world shard_meaning) (map event_of items)
+  pub there : list_all is_of_one_node rest ≡ true
   pub encodable : list_all asks_encodable rest ≡ true
   pub counted : number + length rest ≡ length items
-  pub arrivals : w.arrivals ≤ number
-  pub short : length w.history ≤ number + 1
-  pub sound : IsSound shard_meaning w
 
-pub tells_first : (places : Places) (items rest : List Event) → rest ≡ items → list_all (is_event places) items ≡ true → list_all asks_encodable items ≡ true → Tells places items rest 0 [] (opening_world shard_meaning)
-tells_first places items rest all lawful encodable = rw all (record {
+pub tells_first : (blocks : ℕ) (items rest : List Event) → rest ≡ items → list_all is_of_one_node items ≡ true → list_all asks_encodable items ≡ true → Tells blocks items rest 0 [] (opening_world shard_meaning)
+tells_first blocks items rest all there encodable = rw all (record {
   told = refl;
   last = refl;
-  lawful = lawful;
+  there = there;
   encodable = encodable;
   counted = omega arith;
-  arrivals = omega arith;
-  short = omega arith;
-  sound = opening_sound shard_meaning;
 })
-
-sound_more : (w : World ShardState) (e : Event) → shard_named e ≡ 0 → IsSound shard_meaning w → IsSound shard_meaning (happens shard_meaning w e).world × (length (happens shard_meaning w e).world.history ≤ length w.history + 1)
-sound_more w e zero_shard h = (next_sound shard_meaning w e zero_shard h, longer_by_one shard_meaning w e zero_shard h)
 
 pub none_of : {A : Type 0} (xs : List A) → length xs ≡ 0 → xs ≡ []
 none_of [] h = refl
 none_of (x ∷ xs) h = absurd (omega (arith, h))
 
 -- what the next event may be taken for
-pub record MayHappen (e : Event) (number : ℕ) (items : List Event) (w : World ShardState) : Type 0 where
+pub record MayHappen (e : Event) (number : ℕ) (items : List Event) : Type 0 where
   pub before : number < length items
-  pub arrivals : w.arrivals < length items
-  pub room : length w.history ≤ length items
+  pub there : is_of_one_node e ≡ true
   pub encodable : asks_encodable e ≡ true
 
-pub may_happen : (places : Places) (items rest rest' : List Event) (number : ℕ) (text : List ℕ) (w : World ShardState) (e : Event) → Tells places items rest number text w → rest ≡ e ∷ rest' → MayHappen e number items w
-may_happen places items rest rest' number text w e t here =
+pub may_happen : (blocks : ℕ) (items rest rest' : List Event) (number : ℕ) (text : List ℕ) (w : World ShardState) (e : Event) → Tells blocks items rest number text w → rest ≡ e ∷ rest' → MayHappen e number items
+may_happen blocks items rest rest' number text w e t here =
     let count = rw here at t.counted in
+    let there = rw here at t.there in
     let encodable = rw here at t.encodable in
     record {
       before = omega (arith, count);
-      arrivals = omega (arith, count, t.arrivals);
-      room = omega (arith, count, t.short);
+      there = (both (is_of_one_node e) (list_all is_of_one_node rest') there).0;
       encodable = (both (asks_encodable e) (list_all asks_encodable rest') encodable).0;
     }
 
-pub tells_next : (places : Places) (items rest rest' : List Event) (number : ℕ) (text text' : List ℕ) (w w' : World ShardState) (e : Event) → places.shards ≡ 1 → Tells places items rest number text w → rest ≡ e ∷ rest' → w' ≡ (happens shard_meaning w e).world → text' ≡ text ++ moment_text (number + 1) e (happens shard_meaning w e).effects → Tells places items rest' (number + 1) text' w'
-tells_next places items rest rest' number text text' w w' e one t here world next = rw world (record {
+pub tells_next : (blocks : ℕ) (items rest rest' : List Event) (number : ℕ) (text text' : List ℕ) (w w' : World ShardState) (e : Event) → Tells blocks items rest number text w → rest ≡ e ∷ rest'
+    → w' ≡ (happens shard_meaning blocks w (event_of e)).world → text' ≡ text ++ moment_text (number + 1) e (happens shard_meaning blocks w (event_of e)).effects → Tells blocks items rest' (number + 1) text' w'
+tells_next blocks items rest rest' number text text' w w' e t here world next = rw world (record {
   told = next_told;
-  last = sym (ap (world_after shard_meaning w) here) ∙ t.last;
-  lawful = lawful.1;
+  last = sym (ap (λ es. world_after shard_meaning blocks w (map event_of es)) here) ∙ t.last;
+  there = there.1;
   encodable = encodable.1;
   counted = omega (arith, t.counted, ap length here);
-  arrivals = omega (arith, t.arrivals, (arrivals_most shard_meaning w e).1);
-  short = omega (arith, t.short, grown.1);
-  sound = grown.0;
 })
   where
-    lawful : (is_event places e ≡ true) × (list_all (is_event places) rest' ≡ true)
-    lawful = (let h = rw here at t.lawful in both (is_event places e) (list_all (is_event places) rest') h)
+    there : (is_of_one_node e ≡ true) × (list_all is_of_one_node rest' ≡ true)
+    there = (let h = rw here at t.there in both (is_of_one_node e) (list_all is_of_one_node rest') h)
 
     encodable : (asks_encodable e ≡ true) × (list_all asks_encodable rest' ≡ true)
     encodable = (let h = rw here at t.encodable in both (asks_encodable e) (list_all asks_encodable rest') h)
 
-    grown : IsSound shard_meaning (happens shard_meaning w e).world × (length (happens shard_meaning w e).world.history ≤ length w.history + 1)
-    grown = sound_more w e (shard_is_zero places e one lawful.0) t.sound
+    behind : List ℕ
+    behind = moments_text (number + 1 + 1) rest' (run_from shard_meaning blocks (happens shard_meaning blocks w (event_of e)).world (map event_of rest'))
 
-    next_told : text' ++ moments_text (number + 1 + 1) (run_from shard_meaning (happens shard_meaning w e).world rest') ≡ moments_text 1 (run_of shard_meaning items)
+    next_told : text' ++ moments_text (number + 1 + 1) rest' (run_from shard_meaning blocks (happens shard_meaning blocks w (event_of e)).world (map event_of rest')) ≡ moments_text 1 items (run_of shard_meaning blocks (map event_of items))
     next_told =
-        ap (λ x. x ++ moments_text (number + 1 + 1) (run_from shard_meaning (happens shard_meaning w e).world rest')) next
-        ∙ append_assoc text (moment_text (number + 1) e (happens shard_meaning w e).effects) (moments_text (number + 1 + 1) (run_from shard_meaning (happens shard_meaning w e).world rest'))
-        ∙ sym (ap (λ es. text ++ moments_text (number + 1) (run_from shard_meaning w es)) here) ∙ t.told
+        ap (λ x. x ++ behind) next
+        ∙ append_assoc text (moment_text (number + 1) e (happens shard_meaning blocks w (event_of e)).effects) behind
+        ∙ sym (ap (λ es. text ++ moments_text (number + 1) es (run_from shard_meaning blocks w (map event_of es))) here) ∙ t.told
 
-pub in_step : (places : Places) (items rest : List Event) (number : ℕ) (text : List ℕ) (w : World ShardState) → Tells places items rest number text w → AreInStep w.history w.origins
-in_step places items rest number text w t = rw t.sound.history t.sound.steps
+-- one event of the program's world
+pub tells_on : (blocks : ℕ) (items rest rest' : List Event) (number : ℕ) (text text1 text' : List ℕ) (old new : Running) (e : Event) → Tells blocks items rest number text old.world → rest ≡ e ∷ rest' → old.blocks ≡ blocks
+    → text1 ≡ text ++ numbered_line (number + 1) e → Follows old (happens shard_meaning old.blocks old.world (event_of e)) text1 text' new → Tells blocks items rest' (number + 1) text' new.world
+tells_on blocks items rest rest' number text text1 text' old new e t here same line follows =
+    tells_next blocks items rest rest' number text text' old.world new.world e t here world next
+  where
+    world : new.world ≡ (happens shard_meaning blocks old.world (event_of e)).world
+    world = ap (λ (r : Running). r.world) follows.is ∙ ap (λ b. (happens shard_meaning b old.world (event_of e)).world) same
 
-pub tells_last : (s : Schedule) (places : Places) (rest : List Event) (number : ℕ) (text text' : List ℕ) (w : World ShardState) → Tells places s.events rest number text w → rest ≡ [] → text' ≡ text ++ history_text w.origins 0 w.history → text' ≡ report_of s
+    next : text' ≡ text ++ moment_text (number + 1) e (happens shard_meaning blocks old.world (event_of e)).effects
+    next =
+        follows.told ∙ ap (λ xs. xs ++ flat_map effect_line (happens shard_meaning old.blocks old.world (event_of e)).effects) line
+        ∙ append_assoc text (numbered_line (number + 1) e) (flat_map effect_line (happens shard_meaning old.blocks old.world (event_of e)).effects)
+        ∙ ap (λ b. text ++ moment_text (number + 1) e (happens shard_meaning b old.world (event_of e)).effects) same
+
+pub blocks_on : (blocks : ℕ) (text1 text' : List ℕ) (old new : Running) (e : Event) → old.blocks ≡ blocks → Follows old (happens shard_meaning old.blocks old.world (event_of e)) text1 text' new → new.blocks ≡ blocks
+blocks_on blocks text1 text' old new e same follows = ap (λ (r : Running). r.blocks) follows.is ∙ same
+
+pub last_is : (blocks : ℕ) (items rest : List Event) (number : ℕ) (text : List ℕ) (w : World ShardState) → Tells blocks items rest number text w → rest ≡ [] → w ≡ world_after shard_meaning blocks (opening_world shard_meaning) (map event_of items)
+last_is blocks items rest number text w t none = sym (ap (λ es. world_after shard_meaning blocks w (map event_of es)) none) ∙ t.last
+
+pub tells_last : (s : Schedule) (rest : List Event) (number : ℕ) (text text' : List ℕ) (w : World ShardState) → Tells (blocks_of s.first) s.events rest number text w → rest ≡ [] → text' ≡ text ++ end_text w → text' ≡ report_of s
 unfolding report_of
-tells_last s places rest number text text' w t none added =
-    let whole : text ≡ moments_text 1 (run_of shard_meaning s.events) = sym (append-nil text) ∙ sym (ap (λ es. text ++ moments_text (number + 1) (run_from shard_meaning w es)) none) ∙ t.told in
-    let last : w ≡ world_after shard_meaning (opening_world shard_meaning) s.events = sym (ap (world_after shard_meaning w) none) ∙ t.last in
-    added ∙ ap (λ x. x ++ end_text w) whole ∙ ap (λ v. moments_text 1 (run_of shard_meaning s.events) ++ end_text v) last
+tells_last s rest number text text' w t none added =
+    let whole : text ≡ moments_text 1 s.events (run_of shard_meaning (blocks_of s.first) (events_of s)) =
+    sym (append-nil text) ∙ sym (ap (λ es. text ++ moments_text (number + 1) es (run_from shard_meaning (blocks_of s.first) w (map event_of es))) none) ∙ t.told in
+    let last : w ≡ last_world s = last_is (blocks_of s.first) s.events rest number text w t none in
+    added ∙ ap (λ x. x ++ end_text w) whole ∙ ap (λ v. moments_text 1 s.events (run_of shard_meaning (blocks_of s.first) (events_of s)) ++ end_text v) last
+
+-- the origins of a run stand in the order of its history
+abbrev pub RunsInStep : Type 0
+RunsInStep =
+    (blocks : ℕ) (es : List HappensNext) → AreOfOneNode es
+    → AreInStep (world_after shard_meaning blocks (opening_world shard_meaning) es).history (world_after shard_meaning blocks (opening_world shard_meaning) es).origins
+
+pub in_step : (s : Schedule) (rest : List Event) (number : ℕ) (text : List ℕ) (w : World ShardState) → Tells (blocks_of s.first) s.events rest number text w → rest ≡ [] → RunsInStep → list_all is_of_one_node s.events ≡ true
+    → AreInStep w.history w.origins
+in_step s rest number text w t none law there =
+    let last : w ≡ last_world s = last_is (blocks_of s.first) s.events rest number text w t none in
+    subst (λ (v : World ShardState). AreInStep v.history v.origins) (sym last) (law (blocks_of s.first) (events_of s) (all_there s.events there))

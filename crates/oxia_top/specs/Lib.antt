@@ -1,13 +1,7 @@
-pub mod Meaning
-pub mod Shard
-pub mod Leader
-pub mod Ready
-pub mod World
-pub mod Origins
-pub mod Moments
-pub mod Expiry
-pub mod Notices
-pub mod Legal
+pub mod Events
+pub mod Node
+pub mod Letters
+pub mod Running
 pub mod Report
 pub mod Input
 pub mod Top

@@ -8,9 +8,10 @@ use Rattle.ox_types.specs.declared.ended.Ended.{Ended}
 use Rattle.ox_types.specs.declared.ended.Ended.TheVariants.{Done, Usage, BadLine, ReadFault, WriteFault, NoMemory, InputTooLong}
 use Rattle.ox_schedule.specs.declared.schedule.Schedule.{Schedule}
 use Rattle.ox_schedule.specs.Schedule.{SpellsSchedule, IsFirstBadLine}
-use Rattle.oxia_top.specs.Shard.{shard_meaning, shard_noticing}
-use Rattle.oxia_top.specs.Legal.{IsLegal}
-use Rattle.oxia_top.specs.Report.{report_of}
+use Rattle.ox_meaning.specs.Shard.{shard_meaning}
+use Rattle.ox_safety.specs.Legal.{IsLegal}
+use Rattle.ox_safety.specs.Shard.{shard_noticing}
+use Rattle.oxia_top.specs.Report.{report_of, blocks_of, events_of}
 use Rattle.oxia_top.specs.Input.{input_limit, ReadsToEnd, ReadsTooMuch, ReadBreaksOff}
 
 -- what the source and the sink show before a command and after it
@@ -33,7 +34,7 @@ pub record Reports (old new : Stream) (text : List ℕ) : Type 0 where
   pub read : ReadsToEnd old new bytes
   pub spelt : SpellsSchedule bytes schedule
   pub told : text ≡ report_of schedule
-  pub legal : IsLegal shard_meaning schedule.events shard_noticing
+  pub legal : IsLegal shard_meaning (blocks_of schedule.first) (events_of schedule) shard_noticing
 
 -- the input was read to its end and spells no schedule: its first bad line, and the first rule that it breaks
 pub record ReadsBadLine (old new : Stream) (line : ℕ) (rule : LineRule) : Type 0 where

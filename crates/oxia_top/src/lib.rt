@@ -1,17 +1,18 @@
 //! The whole program as one call over a source and a sink.
 #![tactic(auto)]
 
+mod happen;
 mod input;
-mod law;
-mod leader;
+mod knife;
+mod letter;
+mod node;
 mod output;
 mod report;
-mod text;
+mod telling;
 mod top;
 mod wire;
 mod world;
 
-pub use law::law_legal;
 pub use top::oxia;
 
 #[cfg(test)]

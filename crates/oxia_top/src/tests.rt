@@ -247,10 +247,10 @@ fn bad_lines(rt: HostRuntime) -> Result<(), Fail> {
     let cases: [(&[u8], u64, LineRule); 14] = [
         (b"", 1, LineRule::First),
         (b"solo 2", 1, LineRule::Number),
-        (b"solo 1 8", 1, LineRule::First),
+        (b"solo 1 7", 1, LineRule::Number),
         (b"solo 1\n\n", 2, LineRule::Word),
         (b"solo 1\nclient 1 0 put a\tx\n", 2, LineRule::Bytes),
-        (b"solo 1\nstop 1", 2, LineRule::Word),
+        (b"solo 1\nhalt 1", 2, LineRule::Word),
         (b"solo 1\nclient x 0 frob", 2, LineRule::Word),
         (b"solo 1\nclient 01 0 put a x", 2, LineRule::Number),
         (b"solo 1\nclient 2 0 put a x", 2, LineRule::Name),
@@ -452,5 +452,129 @@ fn sequence_keys_and_indexes(rt: HostRuntime) -> Result<(), Fail> {
         b"  read 4 1 3 record a x 0 0 0 0 - owner:b1",
     ];
     assert!(rt; tells(rt.alloc(), text, &lines)?);
+    Ok(())
+}
+
+/// The report of one put that is cut inside a call of the disks with this digit, with an image.
+fn cut_report(
+    alloc: Global,
+    call: &[u8],
+    image: &[u8],
+    kept: bool,
+) -> Result<(Octets, Octets), NoMemory> {
+    let mut line = Octets::from_slice(alloc, b"cut ")?;
+    line.extend(call)?;
+    line.extend(b" ")?;
+    line.extend(image)?;
+    line.extend(b" client 1 0 put a x\n")?;
+    let mut text = Octets::from_slice(alloc, b"solo 1\n")?;
+    text.extend(line.as_slice())?;
+    let mut wanted = Octets::from_slice(alloc, b"@1 ")?;
+    wanted.extend(line.as_slice())?;
+    wanted.extend(b"  arrival 1\n")?;
+    if kept {
+        wanted.extend(b"  kept append=1 head=1:2\n")?;
+    }
+    wanted.extend(b"  cut\nhistory 0 1\n  0 1 0 pass\n")?;
+    Ok((text, wanted))
+}
+
+#[test]
+fn a_cut_keeps_its_batch_from_the_gate_on(rt: HostRuntime) -> Result<(), Fail> {
+    let calls: [&[u8]; 4] = [b"1", b"2", b"3", b"4"];
+    let images: [&[u8]; 3] = [b"none", b"kept", b"torn"];
+    for (at, call) in calls.iter().enumerate() {
+        for (which, image) in images.iter().enumerate() {
+            let (text, wanted) = cut_report(rt.alloc(), call, image, at >= 2 && which >= 1)?;
+            let (ended, bytes) = replayed(rt.alloc(), text.as_slice(), 0, 1000)?;
+            assert_eq!(rt; ended, Ended::Done);
+            assert_eq!(rt; bytes.as_slice(), wanted.as_slice());
+        }
+    }
+    Ok(())
+}
+
+#[test]
+fn a_step_of_fewer_calls_is_whole(rt: HostRuntime) -> Result<(), Fail> {
+    let text = b"solo 1\ncut 5 none client 1 0 put a x\ncut 1 none client 1 0 get equal a\n";
+    let (ended, bytes) = replayed(rt.alloc(), text, 0, 1000)?;
+    assert_eq!(rt; ended, Ended::Done);
+    let wanted =
+        b"@1 cut 5 none client 1 0 put a x\n  arrival 1\n  kept append=1 head=1:2\n  whole\n  ack 1 1 1 put a 0 0 0 0\n@2 cut 1 none client 1 0 get equal a\n  arrival 2\n  whole\n  read 2 1 2 record a x 0 0 0 0 -\nhistory 0 2\n  0 1 0 pass\n  1 1 0 write 1\n";
+    assert_eq!(rt; bytes.as_slice(), wanted.as_slice());
+    Ok(())
+}
+
+#[test]
+fn a_restarted_node_leads_the_next_term(rt: HostRuntime) -> Result<(), Fail> {
+    let text =
+        b"solo 1\nclient 1 0 put a x\nstop 1\nstart 1\nclient 1 0 get equal a\nfence 1 0 2\ndeliver 1\nlead 1 0 2\ndeliver 3\nclient 1 0 get equal a\n";
+    let (ended, bytes) = replayed(rt.alloc(), text, 0, 1000)?;
+    assert_eq!(rt; ended, Ended::Done);
+    let wanted =
+        b"@1 client 1 0 put a x\n  arrival 1\n  kept append=1 head=1:2\n  ack 1 1 1 put a 0 0 0 0\n@2 stop 1\n@3 start 1\n  opened 0 term=1 seat=led head=1:2\n@4 client 1 0 get equal a\n  arrival 2\n  refuse 2 not-leader 1 -\n@5 fence 1 0 2\n  sent 1 c0 n1 0 NewTerm 2\n@6 deliver 1\n  kept term=2 head=1:2\n  sent 2 n1 c0 0 Fenced 2 1:2\n@7 lead 1 0 2\n  sent 3 c0 n1 0 BecomeLeader 2 {1} {}\n@8 deliver 3\n  kept lead,append=1 head=2:3\n  sent 4 n1 c0 0 Ready 2\n@9 client 1 0 get equal a\n  arrival 3\n  read 3 2 3 record a x 0 0 0 0 -\nhistory 0 3\n  0 1 0 pass\n  1 1 0 write 1\n  2 2 0 pass\n";
+    assert_eq!(rt; bytes.as_slice(), wanted.as_slice());
+    Ok(())
+}
+
+#[test]
+fn a_write_that_was_cut_comes_in_with_the_next_term(rt: HostRuntime) -> Result<(), Fail> {
+    let text =
+        b"solo 1\ncut 3 torn client 1 0 put a x\nclient 1 0 put b y\nstart 1\ntick 1 0 7\nfence 1 0 2\ncut 4 kept deliver 1\nstart 1\nlead 1 0 2\ndeliver 2\ndeliver 2\nclient 1 0 get equal a\n";
+    let lines: [&[u8]; 12] = [
+        b"@2 client 1 0 put b y",
+        b"  down",
+        b"  opened 0 term=1 seat=led head=1:2",
+        b"  kept term=2 head=1:2",
+        b"  cut",
+        b"  opened 0 term=2 seat=fenced head=1:2",
+        b"  kept lead,append=1 head=2:3",
+        b"  sent 3 n1 c0 0 Ready 2",
+        b"  sent 4 n1 c0 0 Ready 2",
+        b"  read 2 2 3 record a x 0 0 0 0 -",
+        b"history 0 3",
+        b"  1 1 0 write 1",
+    ];
+    assert!(rt; tells(rt.alloc(), text, &lines)?);
+    Ok(())
+}
+
+#[test]
+fn messages_and_nodes_that_are_not_there(rt: HostRuntime) -> Result<(), Fail> {
+    let text =
+        b"solo 1\ndeliver 0\nfence 1 0 1\ndeliver 1\ndeliver 2\nlead 1 0 2\ndeliver 3\nstart 1\nstop 1\nstop 1\ndeliver 1\nlose 1\nlose 1\nstart 1\n";
+    let (ended, bytes) = replayed(rt.alloc(), text, 0, 1000)?;
+    assert_eq!(rt; ended, Ended::Done);
+    let wanted =
+        b"@1 deliver 0\n  unknown\n@2 fence 1 0 1\n  sent 1 c0 n1 0 NewTerm 1\n@3 deliver 1\n  sent 2 n1 c0 0 Refused NewTerm 1 seat-taken 1 led\n@4 deliver 2\n  down\n@5 lead 1 0 2\n  sent 3 c0 n1 0 BecomeLeader 2 {1} {}\n@6 deliver 3\n  sent 4 n1 c0 0 Refused BecomeLeader 2 unknown-term 2 1\n@7 start 1\n  ignored\n@8 stop 1\n@9 stop 1\n  ignored\n@10 deliver 1\n  down\n@11 lose 1\n@12 lose 1\n  ignored\n@13 start 1\n  ignored\nhistory 0 1\n  0 1 0 pass\n";
+    assert_eq!(rt; bytes.as_slice(), wanted.as_slice());
+    Ok(())
+}
+
+/// A schedule of one put of a value with this length, at a replica of eight blocks.
+fn put_in_eight_blocks(alloc: Global, value: usize) -> Result<Octets, NoMemory> {
+    let mut text = Octets::from_slice(alloc, b"solo 1 8\nclient 1 0 put a ")?;
+    text.extend(vec![in alloc; b'v'; value]?.as_slice())?;
+    Ok(text)
+}
+
+#[test]
+fn a_log_of_eight_blocks(rt: HostRuntime) -> Result<(), Fail> {
+    let text = put_in_eight_blocks(rt.alloc(), 20_480)?;
+    assert!(rt;
+        tells(
+            rt.alloc(),
+            text.as_slice(),
+            &[b"  refuse 1 log-full 6 5", b"history 0 1"]
+        )?
+    );
+    let text = put_in_eight_blocks(rt.alloc(), 20_000)?;
+    assert!(rt;
+        tells(
+            rt.alloc(),
+            text.as_slice(),
+            &[b"  kept append=1 head=1:2", b"history 0 2"]
+        )?
+    );
     Ok(())
 }

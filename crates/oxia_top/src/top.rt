@@ -7,7 +7,8 @@ use crate::input::{InputFault, read_all};
 use crate::output::write_all;
 use crate::report::report;
 use ox_outside::{Sink, Source};
-use ox_schedule::{ScheduleFault, law_encodable, read_schedule};
+use ox_safety::law_legal;
+use ox_schedule::{ScheduleFault, law_encodable, law_places, read_schedule};
 use ox_types::{Ended, List, Octets};
 use std::alloc::Global;
 
@@ -46,6 +47,8 @@ fn answer<S: Source>(alloc: Global, source: &mut S) -> Result<Octets, Ended>
         Err(ScheduleFault::NoMemory) => return Err(Ended::NoMemory),
     };
     law_encodable();
+    law_places();
+    law_legal();
     match report(alloc, schedule) {
         Ok(text) => Ok(text),
         Err(_) => Err(Ended::NoMemory),

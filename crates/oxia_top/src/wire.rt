@@ -1,11 +1,9 @@
 // A client's request on its way to a node.
 ghost use Rattle.std.specs.Prelude.{◌≡◌, ◌<◌, ◌^◌, length, IsTrue, IfOk};
-ghost use Rattle.ox_ops.specs.Forms.{command as command_form, query as query_form};
 ghost use Rattle.ox_schedule.specs.Lawful.{is_encodable};
+ghost use Rattle.oxia_top.specs.Events.{request_of};
 
-use ox_ops::{
-    ShardCommand, ShardQuery, decode_command, decode_query, encode_command, encode_query,
-};
+use ox_ops::{encode_command, encode_query};
 use ox_schedule::Request;
 use ox_types::{NoMemory, Octets, ShardId};
 use ox_wire::{Message, decode, encode};
@@ -36,49 +34,32 @@ fn carry(
     }
 }
 
-/// The command that a node reads in the request of a client.
-fn carry_command(
-    alloc: Global,
-    arrival: u64,
-    shard: u64,
-    command: &ShardCommand,
-) -> Result<ShardCommand, NoMemory>
-    requires lawful { IsTrue (command_form.is_lawful command.now) }
-    ensures same { IfOk result (λ found. found ≡ command.now) }
+/// A request as a node is asked it.
+#[derive(Debug, Drop)]
+pub struct Carried {
+    pub write: bool,
+    /// The bytes of its command, or of its query where it is no write.
+    pub body: Octets,
+}
+
+/// The bytes of a request.
+fn encoded(alloc: Global, request: &Request) -> Result<Carried, NoMemory>
+    requires { IsTrue (is_encodable request.now) }
+    ensures { IfOk result (λ c. record { write = c.write; body = c.body } ≡ request_of request.now) }
 {
-    let body = encode_command(alloc, command)?;
-    if body.len() > MOST {
-        return Err(NoMemory);
-    }
-    let body = carry(alloc, arrival, shard, true, body)?;
-    match decode_command(alloc, body.as_slice()) {
-        Ok(command) => Ok(command),
-        Err(_) => Err(NoMemory),
+    match request {
+        Request::Write { command, .. } => Ok(Carried {
+            write: true,
+            body: encode_command(alloc, command)?,
+        }),
+        Request::Read(query) => Ok(Carried {
+            write: false,
+            body: encode_query(alloc, query)?,
+        }),
     }
 }
 
-/// The query that a node reads in the request of a client.
-fn carry_query(
-    alloc: Global,
-    arrival: u64,
-    shard: u64,
-    query: &ShardQuery,
-) -> Result<ShardQuery, NoMemory>
-    requires lawful { IsTrue (query_form.is_lawful query.now) }
-    ensures same { IfOk result (λ found. found ≡ query.now) }
-{
-    let body = encode_query(alloc, query)?;
-    if body.len() > MOST {
-        return Err(NoMemory);
-    }
-    let body = carry(alloc, arrival, shard, false, body)?;
-    match decode_query(alloc, body.as_slice()) {
-        Ok(query) => Ok(query),
-        Err(_) => Err(NoMemory),
-    }
-}
-
-/// The request that a node reads in the bytes of the Request message by which a client sends this one, which is that one. It
+/// The request that a node finds in the bytes of the Request message by which a client sends this one, which is that one. It
 /// costs three copies of its bytes. A request of 4 GiB or more and a shard of 2^32 or more, which no schedule within its limit
 /// spells, are answered by want of memory.
 pub fn carry_request(
@@ -86,15 +67,14 @@ pub fn carry_request(
     arrival: u64,
     shard: u64,
     request: &Request,
-) -> Result<Request, NoMemory>
-    requires lawful { IsTrue (is_encodable request.now) }
-    ensures same { IfOk result (λ found. found ≡ request.now) }
+) -> Result<Carried, NoMemory>
+    requires { IsTrue (is_encodable request.now) }
+    ensures { IfOk result (λ c. record { write = c.write; body = c.body } ≡ request_of request.now) }
 {
-    match request {
-        Request::Write { grouping, command } => Ok(Request::Write {
-            grouping: *grouping,
-            command: carry_command(alloc, arrival, shard, command)?,
-        }),
-        Request::Read(query) => Ok(Request::Read(carry_query(alloc, arrival, shard, query)?)),
+    let Carried { write, body } = encoded(alloc, request)?;
+    if body.len() > MOST {
+        return Err(NoMemory);
     }
+    let body = carry(alloc, arrival, shard, write, body)?;
+    Ok(Carried { write, body })
 }

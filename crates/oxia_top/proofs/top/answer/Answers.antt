@@ -1,5 +1,6 @@
 use Rattle.ox_schedule.specs.Schedule.{SpellsSchedule}
-use Rattle.oxia_top.proofs.ScheduleLemmas.{every_run_is_legal}
+use Rattle.oxia_top.specs.Report.{blocks_of, events_of}
+use Rattle.oxia_top.proofs.ScheduleLemmas.{all_there}
 use Rattle.oxia_top.proofs.top.answer.Goals as goal
 
 pub returns-in-Ok-report-clause-text : goal.returns-in-Ok-report-clause-text
@@ -11,5 +12,6 @@ returns-in-Ok-report-clause-text g c =
       read = c.in-Ok.ensures.read;
       spelt = spelt;
       told = c.in-Ok-report.ensures;
-      legal = every_run_is_legal c.in-Ok-read_schedule.schedule spelt.valid;
+      legal = c.law_legal.ensures (blocks_of c.in-Ok-read_schedule.schedule.first) (events_of c.in-Ok-read_schedule.schedule)
+          (all_there c.in-Ok-read_schedule.schedule.events (c.law_places.ensures.events c.in-Ok-read_schedule.schedule spelt.valid));
     }

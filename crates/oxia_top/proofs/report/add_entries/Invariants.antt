@@ -1,7 +1,0 @@
-use Rattle.std.proofs.Common.{◌≡◌, ◌++◌, take}
-use Rattle.std.specs.List.{flat_map}
-use Rattle.oxia_top.specs.Report.{entry_line}
-use Rattle.oxia_top.proofs.report.add_entries.Given as goal
-
-abbrev pub invariant-loop-at : goal.invariant-loop-at
-invariant-loop-at l = l.text ≡ l.fn.text ++ flat_map (entry_line l.origins 0) (take l.at l.history)
