@@ -17,6 +17,7 @@ use Rattle.ox_replica.specs.declared.output.Answered.{Answered}
 use Rattle.ox_replica.specs.Advance.{ack_of}
 use Rattle.ox_replica.specs.State.{ReplicaState}
 use Rattle.ox_replica.specs.Step.{Stepped}
+use Rattle.ox_safety.specs.declared.power.Power.TheVariants as power
 use Rattle.ox_safety.specs.Event.{Request, Event, Effect}
 use Rattle.ox_safety.specs.Event.{Turn as turn}
 use Rattle.ox_safety.specs.Event.{Effect as effect}
@@ -368,6 +369,7 @@ module _ {S C R Q A : Type 0} (M : Meaning S C R Q A) (blocks : ℕ) where
       pub asked : Request
       pub asks : turn_of e ≡ Some (turn.Client node 0 asked)
       pub arrival : a ≡ w.arrivals + 1
+      pub up : w.power ≡ power.Up
       pub truly : ClientRefusal M blocks w.replica asked x
 
     module _ (lone : IsLone M w.replica) (happens : Happens M blocks w e h) where
@@ -403,6 +405,7 @@ module _ {S C R Q A : Type 0} (M : Meaning S C R Q A) (blocks : ℕ) where
                 asked = record { write = step.write; body = step.bytes };
                 asks = asked.asks;
                 arrival = sym both.0 ∙ asked.tag_is;
+                up = answer.step.up;
                 truly = subst (ClientRefusal M blocks w.replica (record { write = step.write; body = step.bytes })) same step.truly;
               }
             where

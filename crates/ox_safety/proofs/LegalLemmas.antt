@@ -1,15 +1,18 @@
 -- Acknowledgements, reads, refusals and replicas of a run of a node that is alone.
-use Rattle.std.proofs.Common.{◌≡◌, ◌≢◌, ◌∙◌, ℕ, zero, suc, ◌+◌, ◌<◌, ◌≤◌, true, List, [], ◌∷◌, ◌++◌, length, take, drop, slice_get, Some, ◌⊎◌, inl, inr, refl, sym, ap, subst, arith}
+use Rattle.std.proofs.Common.{◌≡◌, ◌≢◌, ◌∙◌, ℕ, zero, suc, ◌+◌, ◌<◌, ◌≤◌, Bool, true, false, List, [], ◌∷◌, ◌++◌, length, take, drop, slice_get, Some, ◌⊎◌, inl, inr, refl, sym, ap, subst, arith}
 use Rattle.std.proofs.Math.Seq.{take-append_seam, take-append-le, take-length}
 use Rattle.std.proofs.lemmas.Grind.{common_steps}
 use Rattle.ox_types.specs.declared.log.Entry.{Entry}
 use Rattle.ox_types.specs.declared.refusal.Refusal.{Refusal}
 use Rattle.ox_types.specs.Durable.{DurableState}
+use Rattle.ox_wire.specs.declared.message.Outcome.TheVariants as outcome
 use Rattle.ox_machine.specs.Meaning.{Meaning}
+use Rattle.ox_machine.specs.Laws.{IsMachine}
 use Rattle.ox_machine.specs.Store.{state_after, reply_to, reply_at, answer_after}
 use Rattle.ox_replica.specs.declared.leading.Leading.{Leading}
 use Rattle.ox_replica.specs.State.{ReplicaState}
 use Rattle.ox_replica.specs.Step.{Stepped}
+use Rattle.ox_safety.specs.declared.power.Power.TheVariants as power
 use Rattle.ox_safety.specs.declared.origin.Cause.TheVariants as cause
 use Rattle.ox_safety.specs.Event.{Request, Event}
 use Rattle.ox_safety.specs.Event.{Turn as turn}
@@ -18,11 +21,15 @@ use Rattle.ox_safety.specs.World.{World}
 use Rattle.ox_safety.specs.Run.{origin_of, origins_of, cause_at, whole, happens, AreOfOneNode}
 use Rattle.ox_safety.specs.Moments.{Begins, turn_of, world_at, history_at, replica_at, CameBefore, Acks, Reads}
 use Rattle.ox_safety.specs.Refusals.{TurnTruly, AnswersTruly, RefusalsAreTrue}
-use Rattle.ox_safety.specs.Legal.{StandsInHistory, IsAcknowledgedInPlace, IsReply, RepliesMatch, IsRead, ReadsMatch, IsDurable, Agrees, ReplicasAgree}
+use Rattle.ox_safety.specs.Asked.{AskLawfully}
+use Rattle.ox_safety.specs.Says.{Says}
+use Rattle.ox_safety.specs.Legal.{Suits, AnswersHaveRequests, StandsInHistory, IsAcknowledgedInPlace, IsReply, RepliesMatch, IsRead, ReadsMatch, IsDurable, Agrees, ReplicasAgree}
 use Rattle.ox_safety.proofs.ListLemmas.{get_last, longer_by_one, some_is}
 use Rattle.ox_safety.proofs.EventLemmas.{step_at, IsWhole}
 use Rattle.ox_safety.proofs.SoundLemmas.{SoundTo, IsSound, history_whole}
 use Rattle.ox_safety.proofs.MomentLemmas.{starts_longer, at_next, sound_at, happens_at, later, came_to_shard}
+use Rattle.ox_safety.proofs.FitLemmas.{IdsAreSmall, reply_says, answer_says}
+use Rattle.ox_safety.proofs.BoundLemmas.{bounded_at, fits_at}
 use Rattle.ox_safety.proofs.AnswerLemmas.{AckIs, ack_is, ReadIs, read_is, refusal_is, sent_is}
 
 one_more : (k : ℕ) → k + 1 ≡ suc k
@@ -125,20 +132,31 @@ module _ {S C R Q A : Type 0} (M : Meaning S C R Q A) where
       stands_so : StandsInHistory M blocks es k a s t offset
       stands_so = subst (λ z. StandsInHistory M blocks es k a z t offset) (sym x.shard) stands_first
 
+      log_all : (w k).replica.live.commit ≡ length log
+      log_all = ((sound k).lone.leader x.ack.write.leading x.ack.write.appends.was).all
+
       state_is : (w k).replica.live.machine ≡ state_after M log
       state_is =
-          let all = ((sound k).lone.leader x.ack.write.leading x.ack.write.appends.was).all in
-          (sound k).lone.value ∙ ap (λ n. state_after M (take n log)) all ∙ ap (state_after M) (take-length log)
+          (sound k).lone.value ∙ ap (λ n. state_after M (take n log)) log_all ∙ ap (state_after M) (take-length log)
 
-      reply_first : IsReply M blocks es k 0 offset reply
-      reply_first = record {
+      -- its reply can be written
+      told_reply : IsMachine M → IdsAreSmall M → AskLawfully M es → Says M.replies reply x.ack.value
+      told_reply laws ids lawful =
+          let offset_is = x.ack.write.appends.offset_is in
+          reply_says M laws (w k).replica.live.machine written x.ack.value reply
+          ((bounded_at M laws ids blocks es only lawful (suc k)).entries (length log) written (ap (λ xs. slice_get xs (length log)) log_next ∙ get_last log written))
+          (omega (arith, offset_is, x.ack.write.appends.room (bounded_at M laws ids blocks es only lawful k).few))
+          (subst (λ n. M.fits n (w k).replica.live.machine) (log_all ∙ sym offset_is) (fits_at M laws ids blocks es only lawful k)) x.ack.reply_is x.ack.text
+
+      reply_first : Says M.replies reply x.ack.value → IsReply M blocks es k 0 offset reply
+      reply_first says = record {
         reply = x.ack.value;
         is = ap (λ h. reply_at M h offset) history_is ∙ ap (reply_at M (log ++ written ∷ [])) place ∙ reply_last log written ∙ ap (λ v. reply_to M v written) (sym state_is) ∙ x.ack.reply_is;
-        text = x.ack.text;
+        says = says;
       }
 
-      reply_so : IsReply M blocks es k s offset reply
-      reply_so = subst (λ z. IsReply M blocks es k z offset reply) (sym x.shard) reply_first
+      reply_so : Says M.replies reply x.ack.value → IsReply M blocks es k s offset reply
+      reply_so says = subst (λ z. IsReply M blocks es k z offset reply) (sym x.shard) (reply_first says)
 
       -- it ends below the log of the next moment
       below_next : offset + 1 ≡ length (w (suc k)).replica.disk.entries
@@ -191,8 +209,10 @@ module _ {S C R Q A : Type 0} (M : Meaning S C R Q A) where
       once = λ k j a s t o k' j' a' s' t' o' reply reply' h g. once_so k j a s t o k' j' a' s' t' o' reply reply' (ack_at k j a s t o reply h) (ack_at k' j' a' s' t' o' reply' g);
     }
 
-    pub replies_match : RepliesMatch M blocks es
-    replies_match k j a s t o reply h = reply_so k j a s t o reply (ack_at k j a s t o reply h)
+    pub replies_match : IsMachine M → IdsAreSmall M → AskLawfully M es → RepliesMatch M blocks es
+    replies_match laws ids lawful k j a s t o reply h =
+        let x = ack_at k j a s t o reply h in
+        reply_so k j a s t o reply x (told_reply k j a s t o reply x laws ids lawful)
 
     -- ---- reads
 
@@ -232,10 +252,16 @@ module _ {S C R Q A : Type 0} (M : Meaning S C R Q A) where
           ap (λ n. (w n).history) (one_more k) ∙ history_next k x.event x.here x.read.step _ x.read.query.leads
           ∙ ap (λ (d : DurableState). d.entries) x.read.query.still.disk
 
-      answer_is : told ≡ M.answers.text (answer_after M (history_at M blocks es (k + 1) 0) p x.read.query.query)
-      answer_is =
-          x.read.text ∙ ap (λ v. M.answers.text (M.answer v x.read.query.query))
-          ((sound k).lone.value ∙ ap (λ n. state_after M (take n kept)) (sym x.read.prefix_is) ∙ ap (λ xs. state_after M (take p xs)) (sym read_history))
+      answered_by : (w k).replica.live.machine ≡ state_after M (take p (history_at M blocks es (k + 1) 0))
+      answered_by = (sound k).lone.value ∙ ap (λ n. state_after M (take n kept)) (sym x.read.prefix_is) ∙ ap (λ xs. state_after M (take p xs)) (sym read_history)
+
+      -- its answer can be written
+      told_answer : IsMachine M → IdsAreSmall M → AskLawfully M es → Says M.answers told (answer_after M (history_at M blocks es (k + 1) 0) p x.read.query.query)
+      told_answer laws ids lawful =
+          let bounded = bounded_at M laws ids blocks es only lawful k in
+          let says = answer_says M laws (w k).replica.live.commit (w k).replica.live.machine x.read.query.query told (omega (arith, (sound k).lone.within, bounded.few)) (fits_at M laws ids blocks es only lawful k)
+          (lawful k x.read.asked.node 0 x.event (record { write = false; body = x.read.query.bytes }) x.here x.read.asked.asks x.read.query.query x.read.query.asks) x.read.text in
+          subst (λ v. Says M.answers told (M.answer v x.read.query.query)) answered_by says
 
     lower_first : (k k' : ℕ) → (w k').replica.disk.term < (w k).replica.disk.term → suc k' ≤ k
     lower_first k k' below = elim (order k k') [
@@ -249,8 +275,9 @@ module _ {S C R Q A : Type 0} (M : Meaning S C R Q A) where
     read_later : (k j a s t p m : ℕ) (told : List ℕ) → k ≤ m → ReadAt k j a s t p told → p ≤ length (w m).replica.disk.entries
     read_later k j a s t p m told le x = omega (arith, all k j a s t p told x, starts_longer _ _ (later M blocks es only k m le).entries)
 
-    read_first : (k j a t p : ℕ) (told : List ℕ) → ReadAt k j a 0 t p told → IsRead M blocks es k a 0 t p told
-    read_first k j a t p told x =
+    read_first :
+        (k j a t p : ℕ) (told : List ℕ) (x : ReadAt k j a 0 t p told) → Says M.answers told (answer_after M (history_at M blocks es (k + 1) 0) p x.read.query.query) → IsRead M blocks es k a 0 t p told
+    read_first k j a t p told x says =
         let reached : p ≡ length (w k).replica.disk.entries = all k j a 0 t p told x in
         record {
           bytes = x.read.query.bytes;
@@ -262,7 +289,7 @@ module _ {S C R Q A : Type 0} (M : Meaning S C R Q A) where
           query = x.read.query.query;
           asks = x.read.query.asks;
           within = omega (arith, reached, ap length (read_history k j a 0 t p told x));
-          answer_is = answer_is k j a 0 t p told x;
+          says = says;
           above_lower = λ k' j' b u o reply g lt.
               let y = ack_at k' j' b 0 u o reply g in
               omega (arith, reached, below_later k' j' b 0 u o reply y k (lower_first k k' (omega (arith, lt, y.ack.term, x.read.term))));
@@ -278,10 +305,31 @@ module _ {S C R Q A : Type 0} (M : Meaning S C R Q A) where
               omega (arith, reached, read_later k' j' b 0 t q k other (omega (arith, lt)) y);
         }
 
-    pub reads_match : ReadsMatch M blocks es
-    reads_match k j a s t p told h =
+    pub reads_match : IsMachine M → IdsAreSmall M → AskLawfully M es → ReadsMatch M blocks es
+    reads_match laws ids lawful k j a s t p told h =
         let x = read_at k j a s t p told h in
-        subst (λ z. IsRead M blocks es k a z t p told) (sym x.shard) (read_first k j a t p told (record { event = x.event; here = x.here; read = x.read; shard = refl }))
+        let y : ReadAt k j a 0 t p told = record { event = x.event; here = x.here; read = x.read; shard = refl } in
+        subst (λ z. IsRead M blocks es k a z t p told) (sym x.shard) (read_first k j a t p told y (told_answer k j a 0 t p told y laws ids lawful))
+
+    -- ---- whoever is answered has asked
+
+    came_now : (k a node : ℕ) (e : Event) (q : Request) → slice_get es k ≡ Some e → turn_of e ≡ Some (turn.Client node 0 q) → (w k).power ≡ power.Up → a ≡ (w k).arrivals + 1 → CameBefore M blocks es (k + 1) a 0 q
+    came_now k a node e q here asks up number = record { event = k; before = omega arith; comes = record { event = e; here = here; node = node; asks = asks; up = up; number = number } }
+
+    pub answers_have_requests : AnswersHaveRequests M blocks es
+    answers_have_requests k j a (outcome.Ack t o reply) h =
+        let y = ack_is M blocks (w k) h.event (happens M blocks (w k) h.event) (sound k).lone (happens_at M blocks es only k h.event h.here) j a t o reply h.seen in
+        record { shard = 0; request = _; came = came_now k a y.asked.node h.event _ h.here y.asked.asks y.step.up (y.arrival ∙ y.asked.tag_is); kind = tt }
+    answers_have_requests k j a (outcome.Read t p told) h =
+        let y = read_is M blocks (w k) h.event (happens M blocks (w k) h.event) (sound k).lone (happens_at M blocks es only k h.event h.here) j a t p told h.seen in
+        record { shard = 0; request = _; came = came_now k a y.asked.node h.event _ h.here y.asked.asks y.step.up (y.arrival ∙ y.asked.tag_is); kind = tt }
+    answers_have_requests k j a (outcome.Refused x) h =
+        let y = refusal_is M blocks (w k) h.event (happens M blocks (w k) h.event) (sound k).lone (happens_at M blocks es only k h.event h.here) j a x h.seen in
+        record { shard = 0; request = y.asked; came = came_now k a y.node h.event y.asked h.here y.asks y.up y.arrival; kind = either y.asked.write }
+      where
+        either : (write : Bool) → Suits write (outcome.Refused x)
+        either true = tt
+        either false = tt
 
     -- ---- refusals
 

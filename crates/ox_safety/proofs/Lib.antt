@@ -5,6 +5,8 @@ pub mod LoneLemmas
 pub mod EventLemmas
 pub mod SoundLemmas
 pub mod MomentLemmas
+pub mod FitLemmas
+pub mod BoundLemmas
 pub mod AnswerLemmas
 pub mod LegalLemmas
 pub mod TimerLemmas

@@ -34,6 +34,7 @@ use Rattle.ox_machine.specs.Store.{id_of, command_of, after_command, after, stat
 use Rattle.ox_meaning.specs.Shard.{shard_meaning}
 use Rattle.ox_safety.specs.Event.{Request, Event}
 use Rattle.ox_safety.specs.Moments.{history_at, CameBefore}
+use Rattle.ox_safety.specs.Says.{Says}
 use Rattle.ox_safety.specs.Notices.{items_at, ShowsFirst, given_by_command, given_by_one, given_above, IsNoticed, NoticesAreComplete}
 use Rattle.ox_safety.specs.Shard.{shard_noticing}
 use Rattle.ox_safety.specs.Legal.{IsRead, ReadsMatch}
@@ -375,6 +376,6 @@ module _ (blocks : ℕ) (es : List Event) where
       let steps : InStep 0 (take p h) = InStep-take p 0 h (at_places 0 h (λ i e g. omega (arith, places (k + 1) s i e g))) in
       record {
         told = answer_to (state_after shard_meaning (take p h)) (query.Notices x skip);
-        text = is.answer_is ∙ ap (λ q. shard_meaning.answers.text (answer_after shard_meaning h p q)) query_is;
+        says = subst (λ q. Says shard_meaning.answers bytes (answer_after shard_meaning h p q)) query_is is.says;
         noticed = answer_is_noticed (take p h) steps x skip;
       }

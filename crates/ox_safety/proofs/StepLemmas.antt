@@ -1,7 +1,7 @@
 -- What one step of a replica that is alone does.
 use Rattle.std.proofs.Common.{◌≡◌, ◌∙◌, ℕ, ◌+◌, ◌-◌, ◌<◌, ◌≤◌, Bool, true, false, cond, eqb, leb, ltb, List, [], ◌∷◌, ◌++◌, length, map, take, drop, slice_get, Option, Some, None, option_map, Result, Ok, Err, refl, sym, ap, subst, arith, append-nil, ◌⊎◌, inl, inr}
 use Rattle.std.specs.Prelude.{nat_lt, ◌==◌}
-use Rattle.std.proofs.lemmas.Bool.{cond_both, ltb-true, le-ltb, lt-ltb, leb-true, lt-leb, eqb-true, eq-eqb}
+use Rattle.std.proofs.lemmas.Bool.{cond_both, and_parts, ltb-true, le-ltb, lt-ltb, leb-true, lt-leb, eqb-true, eqb-false, eq-eqb}
 use Rattle.ox_types.specs.declared.bad.Bad.{Bad}
 use Rattle.ox_types.specs.declared.bad.MachineFault.{MachineFault}
 use Rattle.ox_types.specs.declared.log.Entry.{Entry}
@@ -77,6 +77,14 @@ pub record WasLeading {S : Type 0} (r : ReplicaState S) (f : List Running → Li
   pub pending : new.pending ≡ old.pending
   pub timers : new.timers ≡ f old.timers
 
+-- its clock stays within the limit
+abbrev pub IsTimed : {S : Type 0} → ReplicaState S → Stepped S → Type 0
+IsTimed r o = r.live.now ≤ clock_limit → o.state.live.now ≤ clock_limit
+
+-- its log wasn't spent
+abbrev pub HasRoom : {S : Type 0} → ReplicaState S → Type 0
+HasRoom r = length r.disk.entries ≤ clock_limit → length r.disk.entries < clock_limit
+
 -- Nothing is kept and nothing is applied.
 pub record IsStill {S : Type 0} (r : ReplicaState S) (o : Stepped S) (f : List Running → List Running) : Type 0 where
   pub kept : o.kept ≡ []
@@ -84,6 +92,7 @@ pub record IsStill {S : Type 0} (r : ReplicaState S) (o : Stepped S) (f : List R
   pub commit : o.state.live.commit ≡ r.live.commit
   pub machine : o.state.live.machine ≡ r.live.machine
   pub later : r.live.now ≤ o.state.live.now
+  pub bounded : IsTimed r o
   pub back : (l : Leading) → o.state.live.leading ≡ Some l → WasLeading r f l
 
 module _ {S C R Q A : Type 0} (M : Meaning S C R Q A) where
@@ -113,6 +122,8 @@ module _ {S C R Q A : Type 0} (M : Meaning S C R Q A) where
     pub offset_is : e.offset ≡ length r.disk.entries
     pub time_is : e.time ≡ o.state.live.now
     pub later : r.live.now ≤ o.state.live.now
+    pub bounded : IsTimed r o
+    pub room : HasRoom r
     pub kept : o.kept ≡ action.Append (e ∷ []) ∷ []
     pub disk : o.state.disk ≡ longer r.disk e
     pub commit : o.state.live.commit ≡ length r.disk.entries + 1
@@ -187,6 +198,7 @@ module _ {S C R Q A : Type 0} (M : Meaning S C R Q A) where
       pub disk : o.state.disk ≡ record r.disk { term = term; seat = seat.Fenced }
       pub commit : o.state.live.commit ≡ r.live.commit
       pub machine : o.state.live.machine ≡ r.live.machine
+      pub bounded : IsTimed r o
       pub leads : o.state.live.leading ≡ None
       pub sends : AreTrue r o.sends
       pub replies : o.replies ≡ []
@@ -201,6 +213,9 @@ module _ {S C R Q A : Type 0} (M : Meaning S C R Q A) where
       pub term_is : pass.term ≡ r.disk.term
       pub offset_is : pass.offset ≡ length r.disk.entries
       pub is_pass : pass.body ≡ Pass
+      pub time_is : pass.time ≡ o.state.live.now
+      pub bounded : IsTimed r o
+      pub room : HasRoom r
       pub kept : o.kept ≡ action.Lead ∷ action.Append (pass ∷ []) ∷ []
       pub disk : o.state.disk ≡ record (longer r.disk pass) { seat = seat.Led }
       pub commit : o.state.live.commit ≡ length r.disk.entries + 1
@@ -238,23 +253,23 @@ module _ {S C R Q A : Type 0} (M : Meaning S C R Q A) where
       as_it_was l is = record { old = l; was = is; begin = refl; pending = refl; timers = refl }
 
       -- nothing is kept, and it leads as it did
-      rest : (i : Input) (now : ℕ) (leading : Option Leading) (sends : List Outgoing) (replies : List Answered) → r.live.now ≤ now → ((l : Leading) → leading ≡ Some l → WasLeading r unchanged l)
+      rest : (i : Input) (now : ℕ) (leading : Option Leading) (sends : List Outgoing) (replies : List Answered) → r.live.now ≤ now → (r.live.now ≤ clock_limit → now ≤ clock_limit) → ((l : Leading) → leading ≡ Some l → WasLeading r unchanged l)
           → AreTrue r sends → Tells r i replies → Becomes i (record (quiet (record live { now = now; leading = leading })) { sends = sends; replies = replies })
-      rest i now leading sends replies later back true_sends tells =
-          rests (record { kept = refl; disk = refl; commit = refl; machine = refl; later = later; back = back })
+      rest i now leading sends replies later bounded back true_sends tells =
+          rests (record { kept = refl; disk = refl; commit = refl; machine = refl; later = later; bounded = bounded; back = back })
           (subst (AreTrue r) (sym (append-nil sends)) true_sends) (subst (Tells r i) (sym (append-nil replies)) tells)
 
       still : (i : Input) → Becomes i (quiet live)
-      still i = rest i live.now live.leading [] [] (omega arith) as_it_was tt (nobody refl)
+      still i = rest i live.now live.leading [] [] (omega arith) (λ h. h) as_it_was tt (nobody refl)
 
       says : (i : Input) (sends : List Outgoing) → AreTrue r sends → Becomes i (record (quiet live) { sends = sends })
-      says i sends true_sends = rest i live.now live.leading sends [] (omega arith) as_it_was true_sends (nobody refl)
+      says i sends true_sends = rest i live.now live.leading sends [] (omega arith) (λ h. h) as_it_was true_sends (nobody refl)
 
       refuses_row : (i : Input) (from : ℕ) (what : Asked) (t : ℕ) (x : Refusal) → PeerRefusal M blocks r t x → Becomes i (refuses live from what t x)
       refuses_row i from what t x true_of = says i (record { to = peer.Coordinator from; body = body.Refused what t x } ∷ []) (true_of, tt)
 
       refused : (tag : ℕ) (write : Bool) (bytes : List ℕ) (x : Refusal) → ClientRefusal M blocks r (record { write = write; body = bytes }) x → Becomes (input.Client tag write bytes) (refuses_client live tag x)
-      refused tag write bytes x true_of = rest (input.Client tag write bytes) live.now live.leading [] _ (omega arith) as_it_was tt (client tag write bytes x refl true_of refl)
+      refused tag write bytes x true_of = rest (input.Client tag write bytes) live.now live.leading [] _ (omega arith) (λ h. h) as_it_was tt (client tag write bytes x refl true_of refl)
 
       -- ---- what a leader commits
 
@@ -304,13 +319,15 @@ module _ {S C R Q A : Type 0} (M : Meaning S C R Q A) where
         shut : ltb live.commit l.begin ≡ false
         shut = le-ltb live.commit l.begin lead.begun
 
-        appending : (f : List Running → List Running) → timers ≡ f l.timers → still_pending (length r.disk.entries + 1) waiting ≡ [] → e.term ≡ r.disk.term → e.time ≡ now → live.now ≤ now → IsAppending r behind e l f
-        appending f timers-is done term time later = record {
+        appending : (f : List Running → List Running) → timers ≡ f l.timers → still_pending (length r.disk.entries + 1) waiting ≡ [] → e.term ≡ r.disk.term → e.time ≡ now → live.now ≤ now → (live.now ≤ clock_limit → now ≤ clock_limit) → HasRoom r → IsAppending r behind e l f
+        appending f timers-is done term time later bounded room = record {
           was = was;
           term_is = term;
           offset_is = (let none = lone.unsaved.count in omega (arith, offset_is, none));
           time_is = time;
           later = later;
+          bounded = bounded;
+          room = room;
           kept = refl;
           disk = refl;
           commit = counted;
@@ -401,9 +418,9 @@ module _ {S C R Q A : Type 0} (M : Meaning S C R Q A) where
           let not : leb count n ≡ false = lt-leb count n below in
           rw (none, not) refl
 
-      takes_writes : (tag : ℕ) (bytes : List ℕ) (l : Leading) → r.live.leading ≡ Some l → fault_of M (value_in M.commands bytes) ≡ None
+      takes_writes : (tag : ℕ) (bytes : List ℕ) (l : Leading) → r.live.leading ≡ Some l → fault_of M (value_in M.commands bytes) ≡ None → HasRoom r
           → Becomes (input.Client tag true bytes) (append_row (record live { leading = Some (waits tag v.count l) }) (command_entry v live bytes))
-      takes_writes tag bytes l was faultless =
+      takes_writes tag bytes l was faultless room =
           let e : Entry = command_entry v live bytes in
           let waiting : List Pending = l.pending ++ record { tag = tag; offset = v.count } ∷ [] in
           let none = lone.unsaved.count in
@@ -416,21 +433,34 @@ module _ {S C R Q A : Type 0} (M : Meaning S C R Q A) where
             entry = e;
             body_is = refl;
             leading = l;
-            appends = appending l was live.now waiting l.timers e refl unchanged refl (waits_no_more tag v.count (length r.disk.entries + 1) l.pending lead.none (omega (arith, none))) refl refl (omega arith);
+            appends = appending l was live.now waiting l.timers e refl unchanged refl (waits_no_more tag v.count (length r.disk.entries + 1) l.pending lead.none (omega (arith, none))) refl refl (omega arith) (λ h. h) room;
             replies = told l was live.now waiting l.timers e refl ∙ ap (λ w. ack_of M r.disk.term e.offset w (reply_to M live.machine e)) (waits_here tag v.count e.offset l.pending lead.none refl);
           }))
 
-      takes_row : (tag : ℕ) (bytes : List ℕ) (o : Option Leading) → r.live.leading ≡ o → fault_of M (value_in M.commands bytes) ≡ None → not_ready_by v live.hint o ≡ None
+      takes_row : (tag : ℕ) (bytes : List ℕ) (o : Option Leading) → r.live.leading ≡ o → fault_of M (value_in M.commands bytes) ≡ None → not_ready_by v live.hint o ≡ None → HasRoom r
           → Becomes (input.Client tag true bytes) (append_row (record live { leading = option_map (waits tag v.count) o }) (command_entry v live bytes))
-      takes_row tag bytes None was faultless ready = absurd cc
-      takes_row tag bytes (Some l) was faultless ready = takes_writes tag bytes l was faultless
+      takes_row tag bytes None was faultless ready room = absurd cc
+      takes_row tag bytes (Some l) was faultless ready room = takes_writes tag bytes l was faultless room
+
+      -- a count that isn't the limit leaves room
+      room_below : eqb v.count clock_limit ≡ false → HasRoom r
+      room_below test few = let none = lone.unsaved.count in let other = eqb-false v.count clock_limit test in omega (arith, none, other, few)
+
+      -- no refusal says that the log is spent
+      room_left : (need : ℕ) → no_room v need ≡ None → HasRoom r
+      room_left need none = by_test (eqb v.count clock_limit) refl none
+        where
+          by_test : (test : Bool) → eqb v.count clock_limit ≡ test → cond test (Some (refusal.LogSpent v.count)) (cond (ltb (room_of v) need) (Some (refusal.LogFull need (room_of v))) None) ≡ None → HasRoom r
+          by_test true t g = absurd cc
+          by_test false t g = room_below t
 
       write_row : (tag : ℕ) (bytes : List ℕ) (x : Option Refusal) → write_refusal M v live bytes ≡ x → Becomes (input.Client tag true bytes) (write_by M v live tag bytes x)
       write_row tag bytes (Some x) is = refused tag true bytes x (refusal_truly bytes x is)
       write_row tag bytes None is =
           let a = first_none (bad_request (fault_of M (value_in M.commands bytes))) _ is in
           let b = first_none (not_ready v live) _ a.1 in
-          takes_row tag bytes live.leading refl (bad_none (fault_of M (value_in M.commands bytes)) a.0) b.0
+          let d = first_none (too_many_by v live.leading) _ b.1 in
+          takes_row tag bytes live.leading refl (bad_none (fault_of M (value_in M.commands bytes)) a.0) b.0 (room_left (entry_blocks (command_entry v live bytes)) d.1)
 
       hears_begin : (now : ℕ) (h : Option ℕ) (l : Leading) → (hears_by now h l).begin ≡ l.begin
       hears_begin now None l = refl
@@ -461,6 +491,7 @@ module _ {S C R Q A : Type 0} (M : Meaning S C R Q A) where
           commit = refl;
           machine = refl;
           later = omega arith;
+          bounded = λ h. h;
           back = λ new is.
               let same : hears_by live.now (M.heard query) l ≡ new = some_is (hears_by live.now (M.heard query) l) new is in
               record {
@@ -495,16 +526,26 @@ module _ {S C R Q A : Type 0} (M : Meaning S C R Q A) where
         abbrev then : Live S
         then = time_at live ms
 
+        then_bounded : live.now ≤ clock_limit → then.now ≤ clock_limit
+        then_bounded h = omega (arith, h)
+
         waits_row : (l : Leading) → r.live.leading ≡ Some l → Becomes (input.Tick ms) (only_advances then)
         waits_row l was =
             let lead = lone.leader l was in
             let none = lone.unsaved.count in
             let same : advance M r.disk then ≡ unmoved then = stays r.disk then l was (omega (arith, none, lead.all)) in
             subst (λ (a : Advanced S). Steps r (input.Tick ms) (with_advance M r.disk (only_advances then) a)) (sym same)
-            (rest (input.Tick ms) then.now live.leading [] [] (omega arith) as_it_was tt (nobody refl))
+            (rest (input.Tick ms) then.now live.leading [] [] (omega arith) then_bounded as_it_was tt (nobody refl))
 
-        expires_row : (l : Leading) (id : ℕ) → r.live.leading ≡ Some l → due then.now l.timers ≡ Some id → Becomes (input.Tick ms) (append_row (record then { leading = Some (notes id l) }) (expiry_entry M v then id))
-        expires_row l id was due_is =
+        room_so : (id : ℕ) → has_room M v then id ≡ true → HasRoom r
+        room_so id e few =
+            let none = lone.unsaved.count in
+            let both = and_parts (ltb v.count clock_limit) (leb (entry_blocks (expiry_entry M v then id)) (room_of v)) e in
+            let below = ltb-true v.count clock_limit both.0 in
+            omega (arith, none, below)
+
+        expires_row : (l : Leading) (id : ℕ) → r.live.leading ≡ Some l → due then.now l.timers ≡ Some id → HasRoom r → Becomes (input.Tick ms) (append_row (record then { leading = Some (notes id l) }) (expiry_entry M v then id))
+        expires_row l id was due_is room =
             let e : Entry = expiry_entry M v then id in
             let lead = lone.leader l was in
             let later : live.now ≤ then.now = omega arith in
@@ -517,19 +558,19 @@ module _ {S C R Q A : Type 0} (M : Meaning S C R Q A) where
               entry = e;
               time_is = refl;
               body_is = refl;
-              appends = appending l was then.now l.pending (noted id l.timers) e refl (noted id) refl (ap (still_pending (length r.disk.entries + 1)) lead.none) refl refl later;
+              appends = appending l was then.now l.pending (noted id l.timers) e refl (noted id) refl (ap (still_pending (length r.disk.entries + 1)) lead.none) refl refl later then_bounded room;
               replies = told l was then.now l.pending (noted id l.timers) e refl ∙ ap (λ p. ack_of M r.disk.term e.offset (waits_at e.offset p) (reply_to M live.machine e)) lead.none;
             }))
 
-        expires_rows : (l : Leading) (id : ℕ) (o : Option Leading) → r.live.leading ≡ Some l → o ≡ Some l → due then.now l.timers ≡ Some id → Becomes (input.Tick ms) (append_row (record then { leading = option_map (notes id) o }) (expiry_entry M v then id))
-        expires_rows l id o was is due_is = subst (λ p. Becomes (input.Tick ms) (append_row (record then { leading = option_map (notes id) p }) (expiry_entry M v then id))) (sym is) (expires_row l id was due_is)
+        expires_rows : (l : Leading) (id : ℕ) (o : Option Leading) → r.live.leading ≡ Some l → o ≡ Some l → due then.now l.timers ≡ Some id → HasRoom r → Becomes (input.Tick ms) (append_row (record then { leading = option_map (notes id) o }) (expiry_entry M v then id))
+        expires_rows l id o was is due_is room = subst (λ p. Becomes (input.Tick ms) (append_row (record then { leading = option_map (notes id) p }) (expiry_entry M v then id))) (sym is) (expires_row l id was due_is room)
 
         due_row : (l : Leading) (x : Option ℕ) → r.live.leading ≡ Some l → due then.now l.timers ≡ x → Becomes (input.Tick ms) (expires_due M v then x)
         due_row l None was is = waits_row l was
-        due_row l (Some id) was is = cond_both (has_room M v then id) (expires M v then id) (only_advances then) (Becomes (input.Tick ms)) (λ _. expires_rows l id live.leading was was is) (λ _. waits_row l was)
+        due_row l (Some id) was is = cond_both (has_room M v then id) (expires M v then id) (only_advances then) (Becomes (input.Tick ms)) (λ e. expires_rows l id live.leading was was is (room_so id e)) (λ _. waits_row l was)
 
         tick_row : (o : Option Leading) → r.live.leading ≡ o → Becomes (input.Tick ms) (ticks_leading M v then o)
-        tick_row None was = rest (input.Tick ms) then.now live.leading [] [] (omega arith) as_it_was tt (nobody refl)
+        tick_row None was = rest (input.Tick ms) then.now live.leading [] [] (omega arith) then_bounded as_it_was tt (nobody refl)
         tick_row (Some l) was = cond_both (nat_lt v.commit l.begin) (only_advances then) _ (Becomes (input.Tick ms)) (λ _. waits_row l was) (λ _. due_row l (due then.now l.timers) was refl)
 
       -- ---- the rows of a coordinator's messages
@@ -556,6 +597,7 @@ module _ {S C R Q A : Type 0} (M : Meaning S C R Q A) where
           disk = refl;
           commit = refl;
           machine = refl;
+          bounded = λ h. h;
           leads = refl;
           sends = (tt, tt);
           replies = append-nil _ ∙ none_gone t live.leading refl;
@@ -572,8 +614,8 @@ module _ {S C R Q A : Type 0} (M : Meaning S C R Q A) where
         abbrev lead_input : Input
         lead_input = input.Peer (peer.Coordinator chief) (body.BecomeLeader t config followers)
 
-        leads_row : r.disk.seat ≡ seat.Fenced → Becomes lead_input (leads v live 1 chief config)
-        leads_row fenced = subst (λ (a : Advanced S). Steps r lead_input (with_advance M begun (leads v live 1 chief config) a)) (sym moves_on) (beginning (record {
+        leads_row : r.disk.seat ≡ seat.Fenced → HasRoom r → Becomes lead_input (leads v live 1 chief config)
+        leads_row fenced room = subst (λ (a : Advanced S). Steps r lead_input (with_advance M begun (leads v live 1 chief config) a)) (sym moves_on) (beginning (record {
           from = chief;
           says = body.BecomeLeader t config followers;
           is = refl;
@@ -582,6 +624,9 @@ module _ {S C R Q A : Type 0} (M : Meaning S C R Q A) where
           term_is = refl;
           offset_is = (let none = lone.unsaved.count in omega (arith, none));
           is_pass = refl;
+          time_is = refl;
+          bounded = λ h. h;
+          room = room;
           kept = refl;
           disk = refl;
           commit = counted;
@@ -631,8 +676,8 @@ module _ {S C R Q A : Type 0} (M : Meaning S C R Q A) where
         may_lead_row : is_fenced v.seat ≡ true → Becomes lead_input (may_lead v live 1 chief t config)
         may_lead_row fenced =
             cond_both (v.count == clock_limit) _ _ (Becomes lead_input) (λ e. refuses_row lead_input chief asked.BecomeLeader t (refusal.LogSpent v.count) (refl, eqb-true v.count clock_limit e))
-            (λ _. cond_both (v.free == 0) _ _ (Becomes lead_input) (λ e. refuses_row lead_input chief asked.BecomeLeader t (refusal.LogFull 1 0) (refl, sym (eqb-true v.free 0 e), omega arith))
-            (λ _. cond_both (is_alone 1 config) _ _ (Becomes lead_input) (λ _. leads_row (seat_fenced r.disk.seat fenced)) (λ _. still lead_input)))
+            (λ below. cond_both (v.free == 0) _ _ (Becomes lead_input) (λ e. refuses_row lead_input chief asked.BecomeLeader t (refusal.LogFull 1 0) (refl, sym (eqb-true v.free 0 e), omega arith))
+            (λ _. cond_both (is_alone 1 config) _ _ (Becomes lead_input) (λ _. leads_row (seat_fenced r.disk.seat fenced) (room_below below)) (λ _. still lead_input)))
 
         ready_is_true : (test : Bool) → AreTrue r (cond test (record { to = peer.Coordinator chief; body = body.Ready t } ∷ []) [])
         ready_is_true true = (tt, tt)
@@ -640,7 +685,7 @@ module _ {S C R Q A : Type 0} (M : Meaning S C R Q A) where
 
         lead_again_row : (o : Option Leading) → r.live.leading ≡ o → Becomes lead_input (lead_again v live chief t o)
         lead_again_row None is = refuses_row lead_input chief asked.BecomeLeader t (refusal.SeatTaken v.term v.seat) (refl, refl)
-        lead_again_row (Some l) is = rest lead_input live.now (Some (record l { chief = chief })) _ [] (omega arith)
+        lead_again_row (Some l) is = rest lead_input live.now (Some (record l { chief = chief })) _ [] (omega arith) (λ h. h)
             (λ new e.
             let same : record l { chief = chief } ≡ new = some_is (record l { chief = chief }) new e in
             record { old = l; was = is; begin = ap (λ (x : Leading). x.begin) (sym same); pending = ap (λ (x : Leading). x.pending) (sym same); timers = ap (λ (x : Leading). x.timers) (sym same) })

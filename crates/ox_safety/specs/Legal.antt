@@ -1,25 +1,48 @@
 -- When a run is legal: for each shard there is one history that only grows, and every answer is that of one thread over it.
-use Rattle.std.specs.Prelude.{◌≡◌, ◌≢◌, ℕ, ◌+◌, ◌-◌, ◌<◌, ◌≤◌, true, false, List, length, take, drop, slice_get, Option, Some, None, Ok, ◌⊎◌}
+use Rattle.std.specs.Prelude.{◌≡◌, ◌≢◌, ℕ, ◌+◌, ◌-◌, ◌<◌, ◌≤◌, Bool, true, false, List, length, take, drop, slice_get, Option, Some, None, Ok, ◌⊎◌}
 use Rattle.ox_types.specs.declared.log.Entry.{Entry}
 use Rattle.ox_types.specs.declared.log.EntryBody.TheVariants as body
 use Rattle.ox_types.specs.Durable.{DurableState}
 use Rattle.ox_ops.specs.declared.query.ShardQuery.{ShardQuery}
 use Rattle.ox_ops.specs.declared.answer.ShardAnswer.{ShardAnswer}
+use Rattle.ox_wire.specs.declared.message.Outcome.{Outcome}
+use Rattle.ox_wire.specs.declared.message.Outcome.TheVariants as outcome
 use Rattle.ox_machine.specs.Meaning.{Meaning}
 use Rattle.ox_machine.specs.Bytes.{value_in}
 use Rattle.ox_machine.specs.Store.{state_after, reply_at, answer_after}
 use Rattle.ox_replica.specs.State.{ReplicaState}
 use Rattle.ox_replica.specs.Client.{fault_of}
-use Rattle.ox_safety.specs.Event.{Event}
+use Rattle.ox_safety.specs.Event.{Request, Event}
+use Rattle.ox_safety.specs.Event.{Effect as effect}
 use Rattle.ox_safety.specs.declared.power.Power.TheVariants as power
 use Rattle.ox_safety.specs.declared.origin.Cause.{Cause}
 use Rattle.ox_safety.specs.declared.origin.Cause.TheVariants as cause
-use Rattle.ox_safety.specs.Moments.{Begins, history_at, power_at, replica_at, CameBefore, Acks, Reads, IsFrom}
+use Rattle.ox_safety.specs.Moments.{Begins, history_at, power_at, replica_at, Shows, CameBefore, Acks, Reads, IsFrom}
+use Rattle.ox_safety.specs.Says.{Says}
 use Rattle.ox_safety.specs.Expiry.{IsExpiry}
 use Rattle.ox_safety.specs.Refusals.{RefusalsAreTrue}
 use Rattle.ox_safety.specs.Notices.{Noticing, NoticesAreComplete}
 
+-- an acknowledgement answers a write, a told prefix a query, and a refusal either
+abbrev pub Suits : Bool → Outcome → Type 0
+Suits true (outcome.Ack term offset reply) = Unit {0}
+Suits false (outcome.Ack term offset reply) = ⊥
+Suits true (outcome.Read term prefix answer) = ⊥
+Suits false (outcome.Read term prefix answer) = Unit {0}
+Suits write (outcome.Refused refusal) = Unit {0}
+
 module _ {S C R Q A : Type 0} (M : Meaning S C R Q A) (blocks : ℕ) (es : List Event) where
+  -- the arrival came to a shard, in the event or before it, with a request of this kind
+  pub record HasRequest (k arrival : ℕ) (told : Outcome) : Type 0 where
+    pub shard : ℕ
+    pub request : Request
+    pub came : CameBefore M blocks es (k + 1) arrival shard request
+    pub kind : Suits request.write told
+
+  -- whoever is answered has asked
+  abbrev pub AnswersHaveRequests : Type 0
+  AnswersHaveRequests = (k j arrival : ℕ) (told : Outcome) → Shows M blocks es k j (effect.Answered arrival told) → HasRequest k arrival told
+
   -- the history has, at the offset, an entry of the term that comes from the arrival and whose command is the arrival's request
   pub record StandsInHistory (k arrival shard term offset : ℕ) : Type 0 where
     pub entry : Entry
@@ -38,11 +61,11 @@ module _ {S C R Q A : Type 0} (M : Meaning S C R Q A) (blocks : ℕ) (es : List 
         Acks M blocks es k j a s t o reply → Acks M blocks es k' j' a' s' t' o' reply' →
         ((k ≡ k') × (j ≡ j')) ⊎ ((a ≢ a') × (s ≡ s' → o ≢ o'))
 
-  -- the bytes are the reply of the one-thread store to the entry at the offset
+  -- the bytes say the reply of the one-thread store to the entry at the offset
   pub record IsReply (k s o : ℕ) (bytes : List ℕ) : Type 0 where
     pub reply : R
     pub is : reply_at M (history_at M blocks es (k + 1) s) o ≡ Some reply
-    pub text : bytes ≡ M.replies.text reply
+    pub says : Says M.replies bytes reply
 
   abbrev pub RepliesMatch : Type 0
   RepliesMatch = (k j a s t o : ℕ) (reply : List ℕ) → Acks M blocks es k j a s t o reply → IsReply k s o reply
@@ -78,7 +101,7 @@ module _ {S C R Q A : Type 0} (M : Meaning S C R Q A) (blocks : ℕ) (es : List 
     pub query : Q
     pub asks : value_in M.queries bytes ≡ Ok query
     pub within : p ≤ length (history_at M blocks es (k + 1) s)
-    pub answer_is : answer ≡ M.answers.text (answer_after M (history_at M blocks es (k + 1) s) p query)
+    pub says : Says M.answers answer (answer_after M (history_at M blocks es (k + 1) s) p query)
     pub above_lower : (k' j' b u o : ℕ) (reply : List ℕ) → Acks M blocks es k' j' b s u o reply → u < t → o < p
     pub above_earlier : (k' j' b o : ℕ) (reply : List ℕ) → k' < k → Acks M blocks es k' j' b s t o reply → o < p
     pub reaches_lower : (k' j' b u q : ℕ) (other : List ℕ) → Reads M blocks es k' j' b s u q other → u < t → q ≤ p
@@ -111,6 +134,7 @@ module _ {S C R Q A : Type 0} (M : Meaning S C R Q A) (blocks : ℕ) (es : List 
     pub grows : (j k s : ℕ) → j ≤ k → Begins (history_at M blocks es j s) (history_at M blocks es k s)
 
 pub record IsLegal {S C R : Type 0} (M : Meaning S C R ShardQuery ShardAnswer) (blocks : ℕ) (es : List Event) (N : Noticing S C) : Type 0 where
+  pub asked : AnswersHaveRequests M blocks es
   pub acknowledged : IsAcknowledgedInPlace M blocks es
   pub replies : RepliesMatch M blocks es
   pub causes : EntriesHaveCauses M blocks es

@@ -3,6 +3,8 @@ pub mod World
 pub mod Run
 pub mod Origins
 pub mod Moments
+pub mod Asked
+pub mod Says
 pub mod Expiry
 pub mod Refusals
 pub mod Notices

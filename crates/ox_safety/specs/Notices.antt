@@ -13,6 +13,7 @@ use Rattle.ox_machine.specs.Bytes.{value_in}
 use Rattle.ox_machine.specs.Store.{id_of, command_of, after, state_after}
 use Rattle.ox_safety.specs.Event.{Event}
 use Rattle.ox_safety.specs.Moments.{history_at, CameBefore, Reads}
+use Rattle.ox_safety.specs.Says.{Says}
 
 -- What a machine says of notices: those that applying the command of an entry at a time gives, and the low mark of a value.
 pub record Noticing (S C : Type 0) : Type 0 where
@@ -60,7 +61,7 @@ module _ {S C R : Type 0} (M : Meaning S C R ShardQuery ShardAnswer) (N : Notici
   -- each read of notices tells those that its prefix of the history gives
   pub record IsToldNotices (history : List Entry) (offset skip : ℕ) (bytes : List ℕ) : Type 0 where
     pub told : ShardAnswer
-    pub text : bytes ≡ M.answers.text told
+    pub says : Says M.answers bytes told
     pub noticed : IsNoticed history offset skip told
 
   abbrev pub NoticesAreComplete : ℕ → List Event → Type 0

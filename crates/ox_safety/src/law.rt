@@ -5,13 +5,19 @@ ghost use Rattle.ox_safety.specs.Event.{Event};
 ghost use Rattle.ox_safety.specs.World.{opening_world};
 ghost use Rattle.ox_safety.specs.Run.{AreOfOneNode, world_after};
 ghost use Rattle.ox_safety.specs.Origins.{AreInStep};
+ghost use Rattle.ox_safety.specs.Asked.{AskLawfully};
 ghost use Rattle.ox_safety.specs.Legal.{IsLegal};
 ghost use Rattle.ox_safety.specs.Shard.{shard_noticing};
 
-/// Every run of a node that is alone, over shards, is legal: through any crash, restart and new term.
+use ox_meaning::law_shard_is_machine;
+
+/// Every run of a node that is alone, over shards, is legal: through any crash, restart and new term. Requests are bytes; of
+/// these it is used that what they are read as is lawful.
 pub fn law_legal()
-    ensures { (blocks : ℕ) (es : List Event) → AreOfOneNode es → IsLegal shard_meaning blocks es shard_noticing }
-{}
+    ensures { (blocks : ℕ) (es : List Event) → AreOfOneNode es → AskLawfully shard_meaning es → IsLegal shard_meaning blocks es shard_noticing }
+{
+    law_shard_is_machine();
+}
 
 /// The origins of a run of a node that is alone stand in the order of its history.
 pub fn law_in_step()

@@ -3,5 +3,6 @@ pub mod Node
 pub mod Letters
 pub mod Running
 pub mod Report
+pub mod Telling
 pub mod Input
 pub mod Top

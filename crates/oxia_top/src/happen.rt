@@ -2,6 +2,7 @@
 ghost use Rattle.std.specs.Prelude.{◌≡◌, ◌+◌, ◌++◌, IsTrue, IfOk, OnOk};
 ghost use Rattle.ox_meaning.specs.Shard.{shard_meaning};
 ghost use Rattle.ox_replica.specs.Inputs.{IsInput};
+ghost use Rattle.ox_replica.specs.declared.input.Input.TheVariants as input_is;
 ghost use Rattle.ox_report.specs.Effect.{effect_line};
 ghost use Rattle.ox_safety.specs.Event.{Effect as effect};
 ghost use Rattle.ox_safety.specs.Run.{comes, delivers, happens, if_up, lead_body, loses, message_at, node_takes, sends, shown, starts, stops, takes};
@@ -105,6 +106,46 @@ impl World {
         }
     }
 
+    /// No such message was sent.
+    fn miss(self, text: &mut Octets) -> Result<World, NoMemory>
+        ensures { IfOk result (Follows self (shown self.world effect.Unknown) text.old text.new) }
+    {
+        add_unknown(text)?;
+        Ok(self)
+    }
+
+    /// NewTerm of coordinator 0 arrives at the node.
+    fn bring_fence(
+        self,
+        alloc: Global,
+        text: &mut Octets,
+        shard: u64,
+        knife: Knife,
+        term: Term,
+    ) -> Result<World, NoMemory>
+        requires knife { IsKnife knife }
+        ensures { IfOk result (Follows self (if_up self.world self.world.power (node_takes shard_meaning self.blocks self.world shard (knife_of knife) (input_is.Peer (peer.Coordinator 0) (body_is.NewTerm term)))) text.old text.new) }
+    {
+        let input = new_term(term)?;
+        self.hand(alloc, text, shard, knife, input)
+    }
+
+    /// BecomeLeader of coordinator 0 arrives at the node.
+    fn bring_lead(
+        self,
+        alloc: Global,
+        text: &mut Octets,
+        shard: u64,
+        knife: Knife,
+        term: Term,
+    ) -> Result<World, NoMemory>
+        requires knife { IsKnife knife }
+        ensures { IfOk result (Follows self (if_up self.world self.world.power (node_takes shard_meaning self.blocks self.world shard (knife_of knife) (input_is.Peer (peer.Coordinator 0) (lead_body term)))) text.old text.new) }
+    {
+        let input = become_leader(alloc, term)?;
+        self.hand(alloc, text, shard, knife, input)
+    }
+
     /// The message with this number arrives, counted from 1.
     fn deliver(
         self,
@@ -117,16 +158,11 @@ impl World {
         ensures { IfOk result (Follows self (delivers shard_meaning self.blocks self.world (knife_of knife) (message_at self.world.messages number)) text.old text.new) }
     {
         match self.find(number) {
-            Found::Nothing => {
-                add_unknown(text)?;
-                Ok(self)
-            }
+            Found::Nothing => self.miss(text),
             Found::ToCoordinator => self.is_down(text),
-            Found::NewTerm { shard, term } => {
-                self.hand(alloc, text, shard, knife, new_term(term)?)
-            }
+            Found::NewTerm { shard, term } => self.bring_fence(alloc, text, shard, knife, term),
             Found::BecomeLeader { shard, term } => {
-                self.hand(alloc, text, shard, knife, become_leader(alloc, term)?)
+                self.bring_lead(alloc, text, shard, knife, term)
             }
         }
     }

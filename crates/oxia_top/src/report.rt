@@ -1,16 +1,17 @@
 // The report of a run.
-ghost use Rattle.std.specs.Prelude.{◌≡◌, ◌++◌, ◌<◌, ◌^◌, true, OnOk, IfOk, length};
+ghost use Rattle.std.specs.Prelude.{◌≡◌, ◌++◌, ◌<◌, ◌^◌, true, IsTrue, OnOk, IfOk, length};
 ghost use Rattle.std.specs.List.{list_all};
 ghost use Rattle.ox_schedule.specs.Schedule.{IsSchedule};
-ghost use Rattle.ox_schedule.specs.Lawful.{asks_encodable};
+ghost use Rattle.ox_schedule.specs.Lawful.{asks_encodable, is_of_one_node};
 ghost use Rattle.oxia_top.specs.Report.{report_of, numbered_line, blocks_of};
+ghost use Rattle.oxia_top.specs.Telling.{IsToldOf, AreToldOf};
 
 use crate::world::World;
 use itoa::Buffer;
 use ox_report::add_history;
 use ox_safety::law_in_step;
 use ox_schedule::{Event, First, Schedule, add_event, law_places};
-use ox_types::{NoMemory, Octets};
+use ox_types::{List, NoMemory, Octets};
 use std::alloc::Global;
 
 /// How many blocks a replica has where the first line doesn't say it.
@@ -42,6 +43,43 @@ fn add_event_line(
     text.extend(b"\n")
 }
 
+/// One event: its line behind its number, and what is seen of it. Gives the world behind it.
+fn tell_event(
+    alloc: Global,
+    text: &mut Octets,
+    world: World,
+    number: u64,
+    event: Event,
+) -> Result<World, NoMemory>
+    requires there { IsTrue (is_of_one_node event) }
+    requires encodable { IsTrue (asks_encodable event) }
+    ensures { IfOk result (IsToldOf world number event text.old text.new) }
+{
+    add_event_line(alloc, text, number, &event)?;
+    world.happen(alloc, text, event)
+}
+
+/// All events in order, from a world on. Gives the world behind the last.
+fn tell_events(
+    alloc: Global,
+    text: &mut Octets,
+    world: World,
+    events: List<Event>,
+) -> Result<World, NoMemory>
+    requires there { list_all is_of_one_node events ≡ true }
+    requires encodable { list_all asks_encodable events ≡ true }
+    requires few { length events < 2 ^ 53 }
+    ensures { IfOk result (AreToldOf world events text.old text.new) }
+{
+    let mut behind = world;
+    let mut number = 0u64;
+    for event in events.into_vec() {
+        number += 1;
+        behind = tell_event(alloc, text, behind, number, event)?;
+    }
+    Ok(behind)
+}
+
 /// Runs the schedule, and gives the report. It costs the run and the text.
 pub fn report(alloc: Global, schedule: Schedule) -> Result<Octets, NoMemory>
     requires valid { IsSchedule schedule }
@@ -52,14 +90,8 @@ pub fn report(alloc: Global, schedule: Schedule) -> Result<Octets, NoMemory>
     law_in_step();
     law_places();
     let mut text = Octets::new(alloc);
-    let mut world = World::opening(alloc, blocks_in(schedule.first))?;
-    let mut number = 0u64;
-    for event in schedule.events.into_vec() {
-        number += 1;
-        add_event_line(alloc, &mut text, number, &event)?;
-        let behind = world.happen(alloc, &mut text, event)?;
-        world = behind;
-    }
+    let opening = World::opening(alloc, blocks_in(schedule.first))?;
+    let world = tell_events(alloc, &mut text, opening, schedule.events)?;
     add_history(alloc, &mut text, world.history(), world.origins())?;
     Ok(text)
 }

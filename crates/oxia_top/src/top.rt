@@ -6,6 +6,7 @@ ghost use Rattle.oxia_top.specs.Top.{Reports, Stops, Replays, Ends, IsComplete, 
 use crate::input::{InputFault, read_all};
 use crate::output::write_all;
 use crate::report::report;
+use ox_meaning::law_shard_is_machine;
 use ox_outside::{Sink, Source};
 use ox_safety::law_legal;
 use ox_schedule::{ScheduleFault, law_encodable, law_places, read_schedule};
@@ -48,6 +49,7 @@ fn answer<S: Source>(alloc: Global, source: &mut S) -> Result<Octets, Ended>
     };
     law_encodable();
     law_places();
+    law_shard_is_machine();
     law_legal();
     match report(alloc, schedule) {
         Ok(text) => Ok(text),

@@ -1,6 +1,7 @@
+use Rattle.std.proofs.Common.{arith}
 use Rattle.ox_schedule.specs.Schedule.{SpellsSchedule}
 use Rattle.oxia_top.specs.Report.{blocks_of, events_of}
-use Rattle.oxia_top.proofs.ScheduleLemmas.{all_there}
+use Rattle.oxia_top.proofs.ScheduleLemmas.{all_there, all_lawful}
 use Rattle.oxia_top.proofs.top.answer.Goals as goal
 
 pub returns-in-Ok-report-clause-text : goal.returns-in-Ok-report-clause-text
@@ -13,5 +14,6 @@ returns-in-Ok-report-clause-text g c =
       spelt = spelt;
       told = c.in-Ok-report.ensures;
       legal = c.law_legal.ensures (blocks_of c.in-Ok-read_schedule.schedule.first) (events_of c.in-Ok-read_schedule.schedule)
-          (all_there c.in-Ok-read_schedule.schedule.events (c.law_places.ensures.events c.in-Ok-read_schedule.schedule spelt.valid));
+          (all_there c.in-Ok-read_schedule.schedule.events (c.law_places.ensures.events c.in-Ok-read_schedule.schedule spelt.valid))
+          (all_lawful c.law_shard_is_machine.ensures c.in-Ok-read_schedule.schedule.events (c.law_encodable.ensures c.in-Ok.bytes c.in-Ok-read_schedule.schedule spelt (omega (arith, c.in-Ok.ensures.read.short))));
     }
