@@ -8,16 +8,12 @@ ghost use Rattle.ox_bytes.specs.LogForms.{head_to, pieces_of, piece_length};
 
 use crate::fault::{FieldFault, WireRule};
 use crate::field::Field;
-use crate::log::COUNT_LIMIT;
 use crate::reader::Reader;
 use crate::writer::Writer;
-use ox_types::{Chunk, Head, NoMemory, Octets, Term};
+use ox_types::{COUNT_LIMIT, Chunk, Head, NoMemory, Octets, SAVED_LIMIT, Term};
 
 /// The bytes of a whole piece of a snapshot: 1 MiB.
 pub const PIECE_SIZE: u64 = 1_048_576;
-
-/// The most bytes of a snapshot.
-pub const SAVED_LIMIT: u64 = 402_653_184;
 
 /// How many pieces a snapshot of so many bytes makes: one at least.
 pub fn pieces(total: u64) -> u64
@@ -84,7 +80,7 @@ impl Field for Chunk {
 
     ghost exact = { chunk_exact };
 
-    #[tactic(auto, unfolding(crate::specs::LogForms::chunk, crate::specs::LogForms::head_to, crate::specs::LogForms::piece_in))]
+    #[tactic(auto, using(crate::specs::WritingLaws::fronts), unfolding(crate::specs::LogForms::chunk, crate::specs::LogForms::head_to, crate::specs::LogForms::piece_in))]
     fn put(&self, to: &mut Writer) -> Result<(), NoMemory> {
         to.put_u64(self.term.0)?;
         to.put_u64(self.head.term.0)?;
@@ -95,7 +91,7 @@ impl Field for Chunk {
     }
 
     #[tactic(auto, unfolding(crate::specs::LogForms::chunk, crate::specs::LogForms::piece_in))]
-    fn take(from: &mut Reader<'_>) -> Result<Chunk, FieldFault> {
+    fn read(from: &mut Reader<'_>) -> Result<Chunk, FieldFault> {
         let term: Term = Field::take(from)?;
         let head = take_head_to(from, term.0)?;
         let total = from.take_u64_to(SAVED_LIMIT)?;

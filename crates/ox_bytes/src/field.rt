@@ -1,5 +1,6 @@
-ghost use Rattle.std.specs.Prelude.{◌≡◌, ◌++◌, IsTrue, OnOk};
-ghost use Rattle.ox_bytes.specs.Reading.{Gives};
+ghost use Rattle.std.specs.Prelude.{IsTrue};
+ghost use Rattle.ox_bytes.specs.Reading.{Gives, Takes};
+ghost use Rattle.ox_bytes.specs.Writing.{Puts};
 ghost use Rattle.ox_bytes.specs.Form.{Form, IsExact};
 
 use crate::fault::FieldFault;
@@ -14,12 +15,26 @@ pub trait Field: Sized {
     /// Writes the value's text behind what was written. Where memory runs out, a part of the text may stand there.
     fn put(&self, to: &mut Writer) -> Result<(), NoMemory>
         requires { IsTrue (form.is_lawful self.now) }
-        ensures { OnOk result (to.new ≡ to.old ++ form.text self.now) };
+        ensures { Puts result to.old to.new (form.text self.now) };
 
-    /// Takes the value at the front of what is left, or answers the first field at fault. Behind a fault the reader is
-    /// read no further.
-    fn take(from: &mut Reader<'_>) -> Result<Self, FieldFault>
+    /// What `take` gives; behind a fault the reader may stand anywhere, and `take` puts it back.
+    fn read(from: &mut Reader<'_>) -> Result<Self, FieldFault>
         ensures { Gives result from.new (form.at from.old) };
+
+    /// Takes the value at the front of what is left, or answers the first field at fault, also for want of memory, and then
+    /// the reader stays as it was.
+    final fn take(from: &mut Reader<'_>) -> Result<Self, FieldFault>
+        ensures { Takes result from.old from.new (form.at from.old) }
+    {
+        let rest = from.rest();
+        match Self::read(from) {
+            Ok(value) => Ok(value),
+            Err(fault) => {
+                from.go_back(rest);
+                Err(fault)
+            }
+        }
+    }
 
     ghost exact: { IsExact form };
 }
@@ -32,13 +47,14 @@ impl Field for u8 {
 
     ghost exact = { number8_exact };
 
+    #[tactic(auto, using(crate::specs::WritingLaws::fronts))]
     fn put(&self, to: &mut Writer) -> Result<(), NoMemory>
-        ensures { OnOk result (to.new ≡ to.old ++ number8.text self.now) }
+        ensures { Puts result to.old to.new (number8.text self.now) }
     {
         to.put_u8(*self)
     }
 
-    fn take(from: &mut Reader<'_>) -> Result<u8, FieldFault> {
+    fn read(from: &mut Reader<'_>) -> Result<u8, FieldFault> {
         Ok(from.take_u8()?)
     }
 }
@@ -51,13 +67,14 @@ impl Field for u32 {
 
     ghost exact = { number32_exact };
 
+    #[tactic(auto, using(crate::specs::WritingLaws::fronts))]
     fn put(&self, to: &mut Writer) -> Result<(), NoMemory>
-        ensures { OnOk result (to.new ≡ to.old ++ number32.text self.now) }
+        ensures { Puts result to.old to.new (number32.text self.now) }
     {
         to.put_u32(*self)
     }
 
-    fn take(from: &mut Reader<'_>) -> Result<u32, FieldFault> {
+    fn read(from: &mut Reader<'_>) -> Result<u32, FieldFault> {
         Ok(from.take_u32()?)
     }
 }
@@ -70,13 +87,14 @@ impl Field for u64 {
 
     ghost exact = { number64_exact };
 
+    #[tactic(auto, using(crate::specs::WritingLaws::fronts))]
     fn put(&self, to: &mut Writer) -> Result<(), NoMemory>
-        ensures { OnOk result (to.new ≡ to.old ++ number64.text self.now) }
+        ensures { Puts result to.old to.new (number64.text self.now) }
     {
         to.put_u64(*self)
     }
 
-    fn take(from: &mut Reader<'_>) -> Result<u64, FieldFault> {
+    fn read(from: &mut Reader<'_>) -> Result<u64, FieldFault> {
         Ok(from.take_u64()?)
     }
 }
@@ -89,13 +107,14 @@ impl Field for bool {
 
     ghost exact = { bool_exact };
 
+    #[tactic(auto, using(crate::specs::WritingLaws::fronts))]
     fn put(&self, to: &mut Writer) -> Result<(), NoMemory>
-        ensures { OnOk result (to.new ≡ to.old ++ bool_form.text self.now) }
+        ensures { Puts result to.old to.new (bool_form.text self.now) }
     {
         to.put_bool(*self)
     }
 
-    fn take(from: &mut Reader<'_>) -> Result<bool, FieldFault> {
+    fn read(from: &mut Reader<'_>) -> Result<bool, FieldFault> {
         from.take_bool()
     }
 }
@@ -108,11 +127,12 @@ impl Field for Octets {
 
     ghost exact = { octets_exact };
 
+    #[tactic(auto, using(crate::specs::WritingLaws::fronts))]
     fn put(&self, to: &mut Writer) -> Result<(), NoMemory> {
         to.put_octets(self)
     }
 
-    fn take(from: &mut Reader<'_>) -> Result<Octets, FieldFault> {
+    fn read(from: &mut Reader<'_>) -> Result<Octets, FieldFault> {
         from.take_octets()
     }
 }
@@ -125,13 +145,14 @@ impl Field for Key {
 
     ghost exact = { key_exact };
 
+    #[tactic(auto, using(crate::specs::WritingLaws::fronts))]
     fn put(&self, to: &mut Writer) -> Result<(), NoMemory>
-        ensures { OnOk result (to.new ≡ to.old ++ key.text self.now) }
+        ensures { Puts result to.old to.new (key.text self.now) }
     {
         to.put_key(self)
     }
 
-    fn take(from: &mut Reader<'_>) -> Result<Key, FieldFault> {
+    fn read(from: &mut Reader<'_>) -> Result<Key, FieldFault> {
         from.take_key()
     }
 }
@@ -144,13 +165,14 @@ impl Field for Value {
 
     ghost exact = { value_exact };
 
+    #[tactic(auto, using(crate::specs::WritingLaws::fronts))]
     fn put(&self, to: &mut Writer) -> Result<(), NoMemory>
-        ensures { OnOk result (to.new ≡ to.old ++ value.text self.now) }
+        ensures { Puts result to.old to.new (value.text self.now) }
     {
         to.put_value(self)
     }
 
-    fn take(from: &mut Reader<'_>) -> Result<Value, FieldFault> {
+    fn read(from: &mut Reader<'_>) -> Result<Value, FieldFault> {
         from.take_value()
     }
 }

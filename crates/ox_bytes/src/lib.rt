@@ -13,16 +13,11 @@ mod term_table;
 mod whole;
 mod writer;
 
-pub use chunk::{PIECE_SIZE, SAVED_LIMIT, piece_len, pieces};
+pub use chunk::{PIECE_SIZE, piece_len, pieces};
 pub use fault::{BadField, FieldFault, WireRule};
 pub use field::Field;
 pub use law::{law_list_by, law_pair_by};
-pub use log::{COUNT_LIMIT, OFFSET_LIMIT, TERM_LIMIT, TIME_LIMIT};
+pub use ox_types::{COUNT_LIMIT, OFFSET_LIMIT, SAVED_LIMIT, TERM_LIMIT, TIME_LIMIT};
 pub use reader::{Reader, Short};
 pub use whole::{decode, encode};
 pub use writer::Writer;
-
-#[cfg(test)]
-mod log_tests;
-#[cfg(test)]
-mod tests;

@@ -15,6 +15,7 @@ impl<T: Field> Field for Option<T> {
 
     ghost exact = { option_exact T.form T.exact };
 
+    #[tactic(auto, using(crate::specs::WritingLaws::fronts))]
     fn put(&self, to: &mut Writer) -> Result<(), NoMemory> {
         match self {
             None => to.put_u8(0),
@@ -26,7 +27,7 @@ impl<T: Field> Field for Option<T> {
     }
 
     #[tactic(auto, unfolding(crate::specs::Fields::option_at))]
-    fn take(from: &mut Reader<'_>) -> Result<Option<T>, FieldFault> {
+    fn read(from: &mut Reader<'_>) -> Result<Option<T>, FieldFault> {
         if from.take_tag(2)? == 0 {
             Ok(None)
         } else {
@@ -45,6 +46,7 @@ impl<T: Field + Drop> Field for List<T> {
 
     ghost exact = { list_exact T.form T.exact };
 
+    #[tactic(auto, using(crate::specs::WritingLaws::fronts))]
     fn put(&self, to: &mut Writer) -> Result<(), NoMemory> {
         to.put_u32(self.len() as u32)?;
         for item in self.as_slice() {
@@ -54,7 +56,7 @@ impl<T: Field + Drop> Field for List<T> {
     }
 
     #[tactic(auto, unfolding(crate::specs::Fields::list_at))]
-    fn take(from: &mut Reader<'_>) -> Result<List<T>, FieldFault> {
+    fn read(from: &mut Reader<'_>) -> Result<List<T>, FieldFault> {
         let count = from.take_u32()?;
         let mut items = List::new(from.alloc());
         for _ in 0..count {

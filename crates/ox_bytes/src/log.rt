@@ -3,19 +3,10 @@ use crate::fault::FieldFault;
 use crate::field::Field;
 use crate::reader::Reader;
 use crate::writer::Writer;
-use ox_types::{CoordId, Entry, EntryBody, Head, NoMemory, NodeId, Peer, Seat, ShardId, Term};
-
-/// The most that a term is: 2^53.
-pub const TERM_LIMIT: u64 = 9_007_199_254_740_992;
-
-/// The most that a number of entries is: 2^53.
-pub const COUNT_LIMIT: u64 = 9_007_199_254_740_992;
-
-/// The most that the offset of an entry is: 2^53 - 1.
-pub const OFFSET_LIMIT: u64 = 9_007_199_254_740_991;
-
-/// The most that a time is, in ms: 2^53.
-pub const TIME_LIMIT: u64 = 9_007_199_254_740_992;
+use ox_types::{
+    COUNT_LIMIT, CoordId, Entry, EntryBody, Head, NoMemory, NodeId, OFFSET_LIMIT, Peer, Seat,
+    ShardId, TERM_LIMIT, TIME_LIMIT, Term,
+};
 
 impl Field for Term {
     ghost use Rattle.ox_bytes.specs.LogForms.{term};
@@ -25,11 +16,12 @@ impl Field for Term {
 
     ghost exact = { term_exact };
 
+    #[tactic(auto, using(crate::specs::WritingLaws::fronts))]
     fn put(&self, to: &mut Writer) -> Result<(), NoMemory> {
         to.put_u64(self.0)
     }
 
-    fn take(from: &mut Reader<'_>) -> Result<Term, FieldFault> {
+    fn read(from: &mut Reader<'_>) -> Result<Term, FieldFault> {
         Ok(Term(from.take_u64_to(TERM_LIMIT)?))
     }
 }
@@ -42,11 +34,12 @@ impl Field for NodeId {
 
     ghost exact = { number32_exact };
 
+    #[tactic(auto, using(crate::specs::WritingLaws::fronts))]
     fn put(&self, to: &mut Writer) -> Result<(), NoMemory> {
         to.put_u32(self.0)
     }
 
-    fn take(from: &mut Reader<'_>) -> Result<NodeId, FieldFault> {
+    fn read(from: &mut Reader<'_>) -> Result<NodeId, FieldFault> {
         Ok(NodeId(from.take_u32()?))
     }
 }
@@ -59,11 +52,12 @@ impl Field for CoordId {
 
     ghost exact = { number32_exact };
 
+    #[tactic(auto, using(crate::specs::WritingLaws::fronts))]
     fn put(&self, to: &mut Writer) -> Result<(), NoMemory> {
         to.put_u32(self.0)
     }
 
-    fn take(from: &mut Reader<'_>) -> Result<CoordId, FieldFault> {
+    fn read(from: &mut Reader<'_>) -> Result<CoordId, FieldFault> {
         Ok(CoordId(from.take_u32()?))
     }
 }
@@ -76,11 +70,12 @@ impl Field for ShardId {
 
     ghost exact = { number32_exact };
 
+    #[tactic(auto, using(crate::specs::WritingLaws::fronts))]
     fn put(&self, to: &mut Writer) -> Result<(), NoMemory> {
         to.put_u32(self.0)
     }
 
-    fn take(from: &mut Reader<'_>) -> Result<ShardId, FieldFault> {
+    fn read(from: &mut Reader<'_>) -> Result<ShardId, FieldFault> {
         Ok(ShardId(from.take_u32()?))
     }
 }
@@ -93,14 +88,14 @@ impl Field for Head {
 
     ghost exact = { head_exact };
 
-    #[tactic(auto, unfolding(crate::specs::LogForms::head))]
+    #[tactic(auto, using(crate::specs::WritingLaws::fronts), unfolding(crate::specs::LogForms::head))]
     fn put(&self, to: &mut Writer) -> Result<(), NoMemory> {
         to.put_u64(self.term.0)?;
         to.put_u64(self.count)
     }
 
     #[tactic(auto, unfolding(crate::specs::LogForms::head))]
-    fn take(from: &mut Reader<'_>) -> Result<Head, FieldFault> {
+    fn read(from: &mut Reader<'_>) -> Result<Head, FieldFault> {
         let term = Term(from.take_u64_to(TERM_LIMIT)?);
         let count = from.take_u64_to(COUNT_LIMIT)?;
         Ok(Head { term, count })
@@ -115,7 +110,7 @@ impl Field for EntryBody {
 
     ghost exact = { entry_body_exact };
 
-    #[tactic(auto, unfolding(crate::specs::LogForms::entry_body))]
+    #[tactic(auto, using(crate::specs::WritingLaws::fronts), unfolding(crate::specs::LogForms::entry_body))]
     fn put(&self, to: &mut Writer) -> Result<(), NoMemory> {
         match self {
             EntryBody::Pass => to.put_u8(0),
@@ -128,7 +123,7 @@ impl Field for EntryBody {
     }
 
     #[tactic(auto, unfolding(crate::specs::LogForms::entry_body, crate::specs::Fields::choice_at))]
-    fn take(from: &mut Reader<'_>) -> Result<EntryBody, FieldFault> {
+    fn read(from: &mut Reader<'_>) -> Result<EntryBody, FieldFault> {
         match from.take_tag(2)? {
             0 => Ok(EntryBody::Pass),
             _ => {
@@ -147,7 +142,7 @@ impl Field for Seat {
 
     ghost exact = { seat_exact };
 
-    #[tactic(auto, unfolding(crate::specs::LogForms::seat))]
+    #[tactic(auto, using(crate::specs::WritingLaws::fronts), unfolding(crate::specs::LogForms::seat))]
     fn put(&self, to: &mut Writer) -> Result<(), NoMemory> {
         match self {
             Seat::Fenced => to.put_u8(0),
@@ -157,7 +152,7 @@ impl Field for Seat {
     }
 
     #[tactic(auto, unfolding(crate::specs::LogForms::seat, crate::specs::Fields::choice_at))]
-    fn take(from: &mut Reader<'_>) -> Result<Seat, FieldFault> {
+    fn read(from: &mut Reader<'_>) -> Result<Seat, FieldFault> {
         match from.take_tag(3)? {
             0 => Ok(Seat::Fenced),
             1 => Ok(Seat::Attached),
@@ -174,7 +169,7 @@ impl Field for Peer {
 
     ghost exact = { peer_exact };
 
-    #[tactic(auto, unfolding(crate::specs::LogForms::peer))]
+    #[tactic(auto, using(crate::specs::WritingLaws::fronts), unfolding(crate::specs::LogForms::peer))]
     fn put(&self, to: &mut Writer) -> Result<(), NoMemory> {
         match self {
             Peer::Node(id) => {
@@ -191,7 +186,7 @@ impl Field for Peer {
     }
 
     #[tactic(auto, unfolding(crate::specs::LogForms::peer, crate::specs::Fields::choice_at))]
-    fn take(from: &mut Reader<'_>) -> Result<Peer, FieldFault> {
+    fn read(from: &mut Reader<'_>) -> Result<Peer, FieldFault> {
         match from.take_tag(2)? {
             0 => {
                 let id = NodeId(from.take_u32()?);
@@ -213,7 +208,7 @@ impl Field for Entry {
 
     ghost exact = { entry_exact };
 
-    #[tactic(auto, unfolding(crate::specs::LogForms::entry))]
+    #[tactic(auto, using(crate::specs::WritingLaws::fronts), unfolding(crate::specs::LogForms::entry))]
     fn put(&self, to: &mut Writer) -> Result<(), NoMemory> {
         to.put_u64(self.term.0)?;
         to.put_u64(self.offset)?;
@@ -222,7 +217,7 @@ impl Field for Entry {
     }
 
     #[tactic(auto, unfolding(crate::specs::LogForms::entry))]
-    fn take(from: &mut Reader<'_>) -> Result<Entry, FieldFault> {
+    fn read(from: &mut Reader<'_>) -> Result<Entry, FieldFault> {
         let term = Term(from.take_u64_to(TERM_LIMIT)?);
         let offset = from.take_u64_to(OFFSET_LIMIT)?;
         let time = from.take_u64_to(TIME_LIMIT)?;

@@ -73,6 +73,20 @@ impl<'a> Reader<'a> {
         self.alloc
     }
 
+    /// The bytes that are left.
+    pub(crate) fn rest(&self) -> &'a [u8]
+        ensures { result.now ≡ self.now }
+    {
+        self.left
+    }
+
+    /// Puts the reader where these bytes are left.
+    pub(crate) fn go_back(&mut self, rest: &'a [u8])
+        ensures { self.new ≡ rest.now }
+    {
+        self.left = rest;
+    }
+
     /// How many bytes are left.
     pub fn left(&self) -> usize
         ensures { result ≡ length self.now }

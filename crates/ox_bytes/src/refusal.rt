@@ -1,10 +1,11 @@
 // The bytes of refusals (docs/FORMATS.md).
 use crate::fault::FieldFault;
 use crate::field::Field;
-use crate::log::{COUNT_LIMIT, TERM_LIMIT};
 use crate::reader::Reader;
 use crate::writer::Writer;
-use ox_types::{Bad, NoMemory, NodeId, Part, Refusal, Rule, Seat, ShardId, Term};
+use ox_types::{
+    Bad, COUNT_LIMIT, NoMemory, NodeId, Part, Refusal, Rule, Seat, ShardId, TERM_LIMIT, Term,
+};
 
 impl Field for Part {
     ghost use Rattle.ox_bytes.specs.LogForms.{part};
@@ -14,7 +15,7 @@ impl Field for Part {
 
     ghost exact = { part_exact };
 
-    #[tactic(auto, unfolding(crate::specs::LogForms::part))]
+    #[tactic(auto, using(crate::specs::WritingLaws::fronts), unfolding(crate::specs::LogForms::part))]
     fn put(&self, to: &mut Writer) -> Result<(), NoMemory> {
         match self {
             Part::Bytes => to.put_u8(0),
@@ -25,7 +26,7 @@ impl Field for Part {
     }
 
     #[tactic(auto, unfolding(crate::specs::LogForms::part, crate::specs::Fields::choice_at))]
-    fn take(from: &mut Reader<'_>) -> Result<Part, FieldFault> {
+    fn read(from: &mut Reader<'_>) -> Result<Part, FieldFault> {
         match from.take_tag(4)? {
             0 => Ok(Part::Bytes),
             1 => Ok(Part::Batch),
@@ -43,7 +44,7 @@ impl Field for Rule {
 
     ghost exact = { bad_rule_exact };
 
-    #[tactic(auto, unfolding(crate::specs::LogForms::bad_rule))]
+    #[tactic(auto, using(crate::specs::WritingLaws::fronts), unfolding(crate::specs::LogForms::bad_rule))]
     fn put(&self, to: &mut Writer) -> Result<(), NoMemory> {
         match self {
             Rule::Grammar => to.put_u8(0),
@@ -61,7 +62,7 @@ impl Field for Rule {
     }
 
     #[tactic(auto, unfolding(crate::specs::LogForms::bad_rule, crate::specs::Fields::choice_at))]
-    fn take(from: &mut Reader<'_>) -> Result<Rule, FieldFault> {
+    fn read(from: &mut Reader<'_>) -> Result<Rule, FieldFault> {
         match from.take_tag(11)? {
             0 => Ok(Rule::Grammar),
             1 => Ok(Rule::Ops),
@@ -86,7 +87,7 @@ impl Field for Bad {
 
     ghost exact = { bad_form_exact };
 
-    #[tactic(auto, unfolding(crate::specs::LogForms::bad_form))]
+    #[tactic(auto, using(crate::specs::WritingLaws::fronts), unfolding(crate::specs::LogForms::bad_form))]
     fn put(&self, to: &mut Writer) -> Result<(), NoMemory> {
         self.part.put(to)?;
         to.put_u32(self.index)?;
@@ -94,7 +95,7 @@ impl Field for Bad {
     }
 
     #[tactic(auto, unfolding(crate::specs::LogForms::bad_form))]
-    fn take(from: &mut Reader<'_>) -> Result<Bad, FieldFault> {
+    fn read(from: &mut Reader<'_>) -> Result<Bad, FieldFault> {
         let part = Field::take(from)?;
         let index = from.take_u32()?;
         let rule = Field::take(from)?;
@@ -110,7 +111,7 @@ impl Field for Refusal {
 
     ghost exact = { refusal_exact };
 
-    #[tactic(auto, unfolding(crate::specs::LogForms::refusal))]
+    #[tactic(auto, using(crate::specs::WritingLaws::fronts), unfolding(crate::specs::LogForms::refusal))]
     fn put(&self, to: &mut Writer) -> Result<(), NoMemory> {
         match self {
             Refusal::OldTerm { asked, has } => {
@@ -185,7 +186,7 @@ impl Field for Refusal {
     }
 
     #[tactic(auto, unfolding(crate::specs::LogForms::refusal, crate::specs::Fields::choice_at))]
-    fn take(from: &mut Reader<'_>) -> Result<Refusal, FieldFault> {
+    fn read(from: &mut Reader<'_>) -> Result<Refusal, FieldFault> {
         match from.take_tag(11)? {
             0 => {
                 let asked = Term(from.take_u64_to(TERM_LIMIT)?);

@@ -1,19 +1,20 @@
 // The bytes of term tables (docs/FORMATS.md).
-ghost use Rattle.std.specs.Prelude.{◌≡◌, ◌<◌, ◌≤◌, ◌^◌, ◌+◌, ◌++◌, length, nat_le, IfOk, OnOk};
+ghost use Rattle.std.specs.Prelude.{◌≡◌, ◌<◌, ◌≤◌, ◌^◌, ◌+◌, ◌++◌, length, nat_le, IfOk};
 ghost use Rattle.std.specs.List.{flat_map};
+ghost use Rattle.ox_types.specs.Limits.{term_limit, offset_limit};
 ghost use Rattle.ox_bytes.specs.declared.fault.WireRule.TheVariants.{Order};
 ghost use Rattle.ox_bytes.specs.Form.{checked};
 ghost use Rattle.ox_bytes.specs.Fields.{number_to};
 ghost use Rattle.ox_bytes.specs.Reading.{Gives};
+ghost use Rattle.ox_bytes.specs.Writing.{Puts};
 ghost use Rattle.ox_bytes.specs.Numbers.{be32};
 ghost use Rattle.ox_bytes.specs.LogForms.{run_from, run_text, runs_behind};
 
 use crate::fault::{FieldFault, WireRule};
 use crate::field::Field;
-use crate::log::{OFFSET_LIMIT, TERM_LIMIT};
 use crate::reader::Reader;
 use crate::writer::Writer;
-use ox_types::{Head, List, NoMemory, Term, TermRun, TermTable};
+use ox_types::{Head, List, NoMemory, OFFSET_LIMIT, TERM_LIMIT, Term, TermRun, TermTable};
 
 /// A number that is at most `most`, or else out of range, and at least `least`, or else out of order.
 fn take_from(from: &mut Reader<'_>, least: u64, most: u64) -> Result<u64, FieldFault>
@@ -31,7 +32,7 @@ fn take_from(from: &mut Reader<'_>, least: u64, most: u64) -> Result<u64, FieldF
 /// A run whose term and last offset are at least these.
 #[tactic(auto, unfolding(crate::specs::LogForms::run_from))]
 fn take_run(from: &mut Reader<'_>, least: (u64, u64)) -> Result<TermRun, FieldFault>
-    ensures bounded { IfOk result (λ run. (run.term ≤ 9007199254740992) × (run.last ≤ 9007199254740991)) }
+    ensures bounded { IfOk result (λ run. (run.term ≤ term_limit) × (run.last ≤ offset_limit)) }
     ensures read { Gives result from.new ((run_from least).at from.old) }
 {
     let term = Term(take_from(from, least.0, TERM_LIMIT)?);
@@ -41,7 +42,7 @@ fn take_run(from: &mut Reader<'_>, least: (u64, u64)) -> Result<TermRun, FieldFa
 
 /// The least term and last offset of a run behind this one.
 fn past(run: &TermRun) -> (u64, u64)
-    requires { (run.now.term ≤ 9007199254740992) × (run.now.last ≤ 9007199254740991) }
+    requires { (run.now.term ≤ term_limit) × (run.now.last ≤ offset_limit) }
     ensures { result ≡ (run.now.term + 1, run.now.last + 1) }
 {
     (run.term.0 + 1, run.last + 1)
@@ -64,9 +65,10 @@ fn take_runs(from: &mut Reader<'_>, base: &Head) -> Result<List<TermRun>, FieldF
 }
 
 /// The number of the runs, and the runs.
+#[tactic(auto, using(crate::specs::WritingLaws::fronts))]
 fn put_runs(runs: &List<TermRun>, to: &mut Writer) -> Result<(), NoMemory>
     requires { length runs.now < 2 ^ 32 }
-    ensures { OnOk result (to.new ≡ to.old ++ (be32 (length runs.now) ++ flat_map run_text runs.now)) }
+    ensures { Puts result to.old to.new (be32 (length runs.now) ++ flat_map run_text runs.now) }
 {
     to.put_u32(runs.len() as u32)?;
     for run in runs.as_slice() {
@@ -84,7 +86,7 @@ impl Field for TermTable {
 
     ghost exact = { term_table_exact };
 
-    #[tactic(auto, unfolding(crate::specs::LogForms::term_table))]
+    #[tactic(auto, using(crate::specs::WritingLaws::fronts), unfolding(crate::specs::LogForms::term_table))]
     fn put(&self, to: &mut Writer) -> Result<(), NoMemory> {
         self.base.put(to)?;
         put_runs(&self.runs, to)?;
@@ -92,7 +94,7 @@ impl Field for TermTable {
     }
 
     #[tactic(auto, unfolding(crate::specs::LogForms::term_table))]
-    fn take(from: &mut Reader<'_>) -> Result<TermTable, FieldFault> {
+    fn read(from: &mut Reader<'_>) -> Result<TermTable, FieldFault> {
         let base = Field::take(from)?;
         let runs = take_runs(from, &base)?;
         Ok(TermTable { base, runs })

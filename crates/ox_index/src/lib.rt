@@ -10,6 +10,3 @@ mod place;
 pub use added::Added;
 pub use index::Index;
 pub use laws::{edits_change_one_entry, indexes_are_told_by_their_entries, pairs_are_sorted};
-
-#[cfg(test)]
-mod tests;

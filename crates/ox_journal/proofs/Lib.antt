@@ -1,3 +1,4 @@
+mod Calling
 mod Chosen
 mod Fill
 mod Heads
@@ -7,3 +8,4 @@ mod ReadMore
 mod Records
 mod Steps
 mod Switching
+mod Turns

@@ -1,8 +1,9 @@
 // Filling the half that isn't the journal, and making it the journal.
-ghost use Rattle.std.specs.Prelude.{◌≡◌, ◌<◌, ◌≤◌, ◌+◌, ◌^◌, [], ◌∷◌, ◌++◌, ℕ, List, length, vec_capacity, OnOk};
+ghost use Rattle.std.specs.Prelude.{◌≡◌, ◌<◌, ◌≤◌, ◌+◌, ◌/◌, ◌%◌, ◌^◌, [], ◌∷◌, ◌++◌, ℕ, List, length, vec_capacity, OnOk};
 ghost use Rattle.ox_outside.specs.Causes.{HasCause};
-ghost use Rattle.ox_outside.specs.Disk.{IsSynced, LeavesOnly};
+ghost use Rattle.ox_outside.specs.Disk.{CallsLater, IsSynced, LeavesOnly};
 ghost use Rattle.ox_journal.specs.Append.{WithOrWithout};
+ghost use Rattle.ox_journal.specs.Calls.{Calls};
 ghost use Rattle.ox_journal.specs.Filling.{Fills, Gathers};
 ghost use Rattle.ox_journal.specs.Half.{Shut};
 ghost use Rattle.ox_journal.specs.Pair.{IsAside};
@@ -21,6 +22,7 @@ pub fn fill_piece<D: Disk>(disk: &mut D, at: u64, piece: &[u8]) -> Result<(), Fa
     ensures any_moment { (text : List ℕ) → D.tells → Fills (D.shows disk.old) text → at ≡ length text
         → LeavesOnly (D.shows disk.old) (D.shows disk.new) (Shut []) }
     ensures fits { OnOk result (at + length piece.now + 1 < 2 ^ 63) }
+    ensures calls { D.tells → CallsLater 1 (D.shows disk.old) (D.shows disk.new) }
     ensures cause { HasCause (D.faults disk.old) (D.faults disk.new) result }
 {
     disk.write_at(at + 1, piece)?;
@@ -48,6 +50,8 @@ pub fn fill_once<D: Disk>(
     ensures small { filled.new < 2 ^ 63 }
     ensures gathered { length buffer.new.items < 1048576 }
     ensures room { 5242885 ≤ vec_capacity buffer.new }
+    ensures pending { OnOk result (length buffer.new.items ≡ (length buffer.old.items + length bytes.now) % 1048576) }
+    ensures calls { D.tells → OnOk result (Calls ((length buffer.old.items + length bytes.now) / 1048576) (D.shows disk.old) (D.shows disk.new)) }
     ensures cause { HasCause (D.faults disk.old) (D.faults disk.new) result }
 {
     let room = PIECE - buffer.len();
@@ -84,6 +88,8 @@ pub fn fill_all<D: Disk>(
     ensures small { filled.new < 2 ^ 63 }
     ensures gathered { length buffer.new.items < 1048576 }
     ensures room { 5242885 ≤ vec_capacity buffer.new }
+    ensures pending { OnOk result (length buffer.new.items ≡ (length buffer.old.items + length bytes.now) % 1048576) }
+    ensures calls { D.tells → OnOk result (Calls ((length buffer.old.items + length bytes.now) / 1048576) (D.shows disk.old) (D.shows disk.new)) }
     ensures cause { HasCause (D.faults disk.old) (D.faults disk.new) result }
 {
     let mut at = 0;
@@ -114,6 +120,7 @@ pub fn switch_half<D: Disk>(disk: &mut D, at: u64, rest: &[u8]) -> Result<(), Fa
     ensures any_moment { (front text : List ℕ) → D.tells → Fills (D.shows disk.old) front → at ≡ length front → front ++ rest.now ≡ text ++ 0 ∷ []
         → LeavesOnly (D.shows disk.old) (D.shows disk.new) (WithOrWithout [] text) }
     ensures fits { OnOk result (at + length rest.now + 1 < 2 ^ 63) }
+    ensures calls { D.tells → OnOk result (CallsLater 4 (D.shows disk.old) (D.shows disk.new)) }
     ensures cause { HasCause (D.faults disk.old) (D.faults disk.new) result }
 {
     fill_piece(disk, at, rest)?;

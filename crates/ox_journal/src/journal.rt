@@ -1,7 +1,8 @@
 // A journal on a pair of disks.
-ghost use Rattle.std.specs.Prelude.{◌≡◌, ◌≢◌, ◌⊎◌, ◌<◌, ◌≤◌, ◌+◌, ◌^◌, [], ◌∷◌, ◌++◌, ℕ, List, length, vec_capacity, OnOk, OnErr, IsErr};
+ghost use Rattle.std.specs.Prelude.{◌≡◌, ◌≢◌, ◌⊎◌, ◌<◌, ◌≤◌, ◌+◌, ◌^◌, [], ◌∷◌, ◌++◌, ℕ, List, Option, Some, length, vec_capacity, OnOk, OnErr, IsErr};
 ghost use Rattle.ox_outside.specs.Causes.{Rose};
 ghost use Rattle.ox_outside.specs.Disk.{CallsLater, LeavesOnly};
+ghost use Rattle.ox_journal.specs.Chain.{FilesHold, LeavesInTurn, in_order};
 ghost use Rattle.ox_journal.specs.Half.{record_text};
 ghost use Rattle.ox_journal.specs.Pair.{IsOpen, LeavesPairs};
 ghost use Rattle.ox_journal.specs.Appended.{HalfWithOrWithout, BeforeOrAfter};
@@ -58,6 +59,13 @@ fn rest_of(bytes: &[u8], at: usize) -> &[u8]
 }
 
 impl<D: Disk> Journal<D> {
+    /// Two runs of calls, one behind the other, are one.
+    pub fn law_joined()
+        ensures { (steps more : List (List (Option (List (List ℕ))))) (first mid last : D × D)
+            → LeavesInTurn D.shows FilesHold steps first mid → LeavesInTurn D.shows FilesHold more mid last
+            → LeavesInTurn D.shows FilesHold (steps ++ more) first last }
+    {}
+
     /// Adds a record by four calls on the journal's disk. At `Ok` it is acknowledged: from then on each crash leaves a pair that has it.
     /// A rewrite that was begun goes on, and won't have it.
     pub fn append(&mut self, payload: &[u8]) -> Result<(), DiskFault>
@@ -73,6 +81,10 @@ impl<D: Disk> Journal<D> {
             → IsOpen (D.shows self.old.live) (D.shows self.old.spare) self.old.round self.old.end payloads
             → LeavesPairs (D.shows self.old.live) (D.shows self.old.spare) (D.shows self.new.live) (D.shows self.new.spare)
             (BeforeOrAfter payloads payload.now) }
+        ensures in_turn { (payloads : List (List ℕ)) → D.tells → self.old.state ≢ Broken
+            → IsOpen (D.shows self.old.live) (D.shows self.old.spare) self.old.round self.old.end payloads
+            → LeavesInTurn D.shows FilesHold ((Some payloads ∷ Some (payloads ++ payload.now ∷ []) ∷ []) ∷ [])
+            (in_order self.old.half self.old.live self.old.spare) (in_order self.new.half self.new.live self.new.spare) }
         ensures live { (payloads : List (List ℕ)) → D.tells → self.old.state ≢ Broken
             → IsOpen (D.shows self.old.live) (D.shows self.old.spare) self.old.round self.old.end payloads
             → LeavesOnly (D.shows self.old.live) (D.shows self.new.live) (HalfWithOrWithout self.old.round payloads payload.now) }

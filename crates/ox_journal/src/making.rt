@@ -1,7 +1,8 @@
 // The master gate of a half.
 ghost use Rattle.std.specs.Prelude.{◌≡◌, ◌∷◌, [], OnOk};
 ghost use Rattle.ox_outside.specs.Causes.{HasCause};
-ghost use Rattle.ox_outside.specs.Disk.{IsSynced, LeavesOnly};
+ghost use Rattle.ox_outside.specs.Disk.{CallsLater, IsSynced, LeavesOnly};
+ghost use Rattle.ox_journal.specs.Calls.{closing_calls};
 ghost use Rattle.ox_journal.specs.Half.{Shut};
 ghost use Rattle.ox_journal.specs.Head.{head_of};
 ghost use Rattle.ox_journal.specs.Made.{DeadOr, DeadOrMade};
@@ -18,6 +19,7 @@ pub fn close_gate<D: Disk>(disk: &mut D) -> Result<(), Failed>
         → LeavesOnly (D.shows disk.old) (D.shows disk.new) (DeadOr (head_of ((D.shows disk.old).seen))) }
     ensures closed { D.tells → IsClosed (D.shows disk.old) → OnOk result (IsClosed (D.shows disk.new)) }
     ensures closed_any_moment { D.tells → IsClosed (D.shows disk.old) → LeavesOnly (D.shows disk.old) (D.shows disk.new) (Shut []) }
+    ensures calls { D.tells → OnOk result (CallsLater (closing_calls ((D.shows disk.old).seen)) (D.shows disk.old) (D.shows disk.new)) }
     ensures cause { HasCause (D.faults disk.old) (D.faults disk.new) result }
 {
     let mut bytes = [0u8; 2];

@@ -2,7 +2,7 @@
 ghost use Rattle.std.specs.Prelude.{◌≡◌, ◌≢◌, ◌⊎◌, ◌≤◌, ℕ, List, [], ◌∷◌, ◌++◌, ◌+◌, length, drop, Ok, Err, Some, None, IfOk, IfErr, IsErrOf, IfSome};
 ghost use Rattle.ox_outside.specs.Causes.{Rose};
 ghost use Rattle.ox_outside.specs.Disk.{Quiet};
-ghost use Rattle.ox_journal.specs.Next.{next_of};
+ghost use Rattle.ox_journal.specs.Next.{next_of, StandsAt};
 ghost use Rattle.ox_journal.specs.Opening.{first_of};
 ghost use Rattle.ox_journal.specs.Pair.{IsHalf, IsOpen, IsReading};
 ghost use Rattle.ox_journal.specs.declared.state.State.TheVariants.{Open, Reading, Broken};
@@ -25,6 +25,8 @@ impl<D: Disk> Journal<D> {
         ensures given { (done : List (List ℕ)) → D.tells → self.old.state ≡ Reading
             → IsReading (D.shows self.old.live) (D.shows self.old.spare) self.old.round self.old.end done
             → IfOk result (λ given. IfSome given (λ payload. IsReading (D.shows self.new.live) (D.shows self.new.spare) self.new.round self.new.end (done ++ payload ∷ []))) }
+        ensures gate { D.tells → self.old.state ≡ Reading
+            → IfOk result (λ given. IfSome given (λ payload. StandsAt ((D.shows self.old.live).seen) self.old.end payload)) }
         ensures none { (done : List (List ℕ)) → D.tells → self.old.state ≡ Reading
             → IsReading (D.shows self.old.live) (D.shows self.old.spare) self.old.round self.old.end done
             → result ≡ Ok None → IsOpen (D.shows self.new.live) (D.shows self.new.spare) self.new.round self.new.end done }

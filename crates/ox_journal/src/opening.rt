@@ -1,7 +1,8 @@
 // Making a journal, and recovering one.
-ghost use Rattle.std.specs.Prelude.{◌≡◌, ◌⊎◌, ◌≤◌, ℕ, List, [], IfOk, IfErr};
+ghost use Rattle.std.specs.Prelude.{◌≡◌, ◌⊎◌, ◌≤◌, ℕ, List, [], ◌∷◌, Some, None, IfOk, IfErr};
 ghost use Rattle.ox_outside.specs.Causes.{Rose};
 ghost use Rattle.ox_outside.specs.Disk.{LeavesOnly};
+ghost use Rattle.ox_journal.specs.Chain.{FilesHold, LeavesInTurn, in_order};
 ghost use Rattle.ox_journal.specs.Made.{DeadOrMade, UnformattedOrEmpty};
 ghost use Rattle.ox_journal.specs.Opening.{chosen, BothQuiet, Recovered, IsUnformatted};
 ghost use Rattle.ox_journal.specs.Pair.{IsHalf, Holds, IsOpen, LeavesPairs};
@@ -33,6 +34,10 @@ impl<D: Disk> Journal<D> {
             LeavesPairs (D.shows first) (D.shows second) (D.shows j.live) (D.shows j.spare) UnformattedOrEmpty) }
         ensures any_moment_err { D.tells → IfErr result (λ e.
             LeavesPairs (D.shows first) (D.shows second) (D.shows e.1) (D.shows e.2) UnformattedOrEmpty) }
+        ensures in_turn { D.tells → IfOk result (λ j.
+            LeavesInTurn D.shows FilesHold ((None ∷ Some [] ∷ []) ∷ []) (first, second) (in_order j.half j.live j.spare)) }
+        ensures in_turn_err { D.tells → IfErr result (λ e.
+            LeavesInTurn D.shows FilesHold ((None ∷ Some [] ∷ []) ∷ []) (first, second) (e.1, e.2)) }
         ensures live { D.tells → IfOk result (λ j. LeavesOnly (D.shows first) (D.shows j.live) DeadOrMade) }
         ensures live_err { D.tells → IfErr result (λ e. LeavesOnly (D.shows first) (D.shows e.1) DeadOrMade) }
         ensures spare { IfOk result (λ j. j.spare ≡ second) }
@@ -128,6 +133,7 @@ impl<D: Disk> Journal<D> {
     pub fn close(self) -> (D, D)
         ensures zero { self.half ≡ 0 → (result.0 ≡ self.live) × (result.1 ≡ self.spare) }
         ensures one { self.half ≡ 1 → (result.0 ≡ self.spare) × (result.1 ≡ self.live) }
+        ensures order { result ≡ in_order self.half self.live self.spare }
     {
         let Journal {
             live,

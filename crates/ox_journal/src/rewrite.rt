@@ -1,6 +1,9 @@
 // The rewrite of a journal into its other half.
-ghost use Rattle.std.specs.Prelude.{◌≡◌, ◌≢◌, ◌⊎◌, ◌<◌, ◌≤◌, ◌+◌, ◌^◌, [], ◌∷◌, ◌++◌, ℕ, List, length, OnOk, OnErr};
+ghost use Rattle.std.specs.Prelude.{◌≡◌, ◌≢◌, ◌⊎◌, ◌<◌, ◌≤◌, ◌+◌, ◌/◌, ◌%◌, ◌^◌, [], ◌∷◌, ◌++◌, ℕ, List, Some, length, OnOk, OnErr};
 ghost use Rattle.ox_outside.specs.Causes.{Rose};
+ghost use Rattle.ox_outside.specs.Disk.{CallsLater};
+ghost use Rattle.ox_journal.specs.Calls.{Calls, closing_calls};
+ghost use Rattle.ox_journal.specs.Chain.{FilesHold, LeavesInTurn, in_order};
 ghost use Rattle.ox_journal.specs.Filling.{IsRewriting, OldOrNew, next_round};
 ghost use Rattle.ox_journal.specs.Pair.{IsOpen, LeavesPairs, Holds};
 ghost use Rattle.ox_journal.specs.declared.state.State.TheVariants.{Reading, Open, Broken, Filling};
@@ -24,9 +27,15 @@ impl<D: Disk> Journal<D> {
         ensures any_moment { (payloads : List (List ℕ)) → D.tells → self.old.state ≢ Broken
             → IsOpen (D.shows self.old.live) (D.shows self.old.spare) self.old.round self.old.end payloads
             → LeavesPairs (D.shows self.old.live) (D.shows self.old.spare) (D.shows self.new.live) (D.shows self.new.spare) (λ c d. Holds c d payloads) }
+        ensures in_turn { (payloads : List (List ℕ)) → D.tells → self.old.state ≢ Broken
+            → IsOpen (D.shows self.old.live) (D.shows self.old.spare) self.old.round self.old.end payloads
+            → LeavesInTurn D.shows FilesHold ((Some payloads ∷ []) ∷ [])
+            (in_order self.old.half self.old.live self.old.spare) (in_order self.new.half self.new.live self.new.spare) }
+        ensures calls { D.tells → OnOk result (CallsLater (closing_calls ((D.shows self.old.spare).seen)) (D.shows self.old.spare) (D.shows self.new.spare)) }
         ensures live { self.new.live ≡ self.old.live }
         ensures same { (self.new.half ≡ self.old.half) × (self.new.round ≡ self.old.round) × (self.new.end ≡ self.old.end) }
         ensures begun { OnOk result (self.new.left ≡ 0) }
+        ensures pending { OnOk result (length self.new.buffer.items ≡ 9) }
         ensures state_ok { OnOk result ((self.old.state ≢ Broken) × (self.new.state ≡ Filling)) }
         ensures state_err { OnErr result (self.new.state ≡ Broken) }
         ensures broken { self.old.state ≡ Broken → self.new ≡ self.old }
@@ -73,9 +82,16 @@ impl<D: Disk> Journal<D> {
             → IsOpen (D.shows self.old.live) (D.shows self.old.spare) self.old.round self.old.end payloads
             → IsRewriting (D.shows self.old.spare) self.old.round self.old.filled self.old.left self.old.buffer.items new
             → LeavesPairs (D.shows self.old.live) (D.shows self.old.spare) (D.shows self.new.live) (D.shows self.new.spare) (λ c d. Holds c d payloads) }
+        ensures in_turn { (payloads new : List (List ℕ)) → D.tells → self.old.state ≡ Filling
+            → IsOpen (D.shows self.old.live) (D.shows self.old.spare) self.old.round self.old.end payloads
+            → IsRewriting (D.shows self.old.spare) self.old.round self.old.filled self.old.left self.old.buffer.items new
+            → LeavesInTurn D.shows FilesHold ((Some payloads ∷ []) ∷ [])
+            (in_order self.old.half self.old.live self.old.spare) (in_order self.new.half self.new.live self.new.spare) }
+        ensures calls { D.tells → OnOk result (Calls ((length self.old.buffer.items + 5) / 1048576) (D.shows self.old.spare) (D.shows self.new.spare)) }
         ensures live { self.new.live ≡ self.old.live }
         ensures same { (self.new.half ≡ self.old.half) × (self.new.round ≡ self.old.round) × (self.new.end ≡ self.old.end) }
         ensures begun { OnOk result (self.new.left ≡ len) }
+        ensures pending { OnOk result (length self.new.buffer.items ≡ (length self.old.buffer.items + 5) % 1048576) }
         ensures state_ok { OnOk result ((self.old.state ≡ Filling) × (self.new.state ≡ Filling)) }
         ensures state_err { OnErr result (self.new.state ≡ Broken) }
         ensures broken { self.old.state ≡ Broken → self.new ≡ self.old }
@@ -121,9 +137,16 @@ impl<D: Disk> Journal<D> {
             → IsOpen (D.shows self.old.live) (D.shows self.old.spare) self.old.round self.old.end payloads
             → IsRewriting (D.shows self.old.spare) self.old.round self.old.filled self.old.left self.old.buffer.items new
             → LeavesPairs (D.shows self.old.live) (D.shows self.old.spare) (D.shows self.new.live) (D.shows self.new.spare) (λ c d. Holds c d payloads) }
+        ensures in_turn { (payloads new : List (List ℕ)) → D.tells → self.old.state ≡ Filling
+            → IsOpen (D.shows self.old.live) (D.shows self.old.spare) self.old.round self.old.end payloads
+            → IsRewriting (D.shows self.old.spare) self.old.round self.old.filled self.old.left self.old.buffer.items new
+            → LeavesInTurn D.shows FilesHold ((Some payloads ∷ []) ∷ [])
+            (in_order self.old.half self.old.live self.old.spare) (in_order self.new.half self.new.live self.new.spare) }
+        ensures calls { D.tells → OnOk result (Calls ((length self.old.buffer.items + length bytes.now) / 1048576) (D.shows self.old.spare) (D.shows self.new.spare)) }
         ensures live { self.new.live ≡ self.old.live }
         ensures same { (self.new.half ≡ self.old.half) × (self.new.round ≡ self.old.round) × (self.new.end ≡ self.old.end) }
         ensures lacks { OnOk result (self.new.left + length bytes.now ≡ self.old.left) }
+        ensures pending { OnOk result (length self.new.buffer.items ≡ (length self.old.buffer.items + length bytes.now) % 1048576) }
         ensures state_ok { OnOk result ((self.old.state ≡ Filling) × (self.new.state ≡ Filling)) }
         ensures state_err { OnErr result (self.new.state ≡ Broken) }
         ensures broken { self.old.state ≡ Broken → self.new ≡ self.old }
@@ -164,6 +187,12 @@ impl<D: Disk> Journal<D> {
             → IsOpen (D.shows self.old.live) (D.shows self.old.spare) self.old.round self.old.end payloads
             → IsRewriting (D.shows self.old.spare) self.old.round self.old.filled self.old.left self.old.buffer.items new
             → OnErr result (LeavesPairs (D.shows self.old.live) (D.shows self.old.spare) (D.shows self.new.live) (D.shows self.new.spare) (OldOrNew payloads new)) }
+        ensures in_turn { (payloads new : List (List ℕ)) → D.tells → self.old.state ≡ Filling
+            → IsOpen (D.shows self.old.live) (D.shows self.old.spare) self.old.round self.old.end payloads
+            → IsRewriting (D.shows self.old.spare) self.old.round self.old.filled self.old.left self.old.buffer.items new
+            → LeavesInTurn D.shows FilesHold ((Some payloads ∷ Some new ∷ []) ∷ [])
+            (in_order self.old.half self.old.live self.old.spare) (in_order self.new.half self.new.live self.new.spare) }
+        ensures calls { D.tells → OnOk result (CallsLater 4 (D.shows self.old.spare) (D.shows self.new.live)) }
         ensures live { OnOk result (self.new.spare ≡ self.old.live) }
         ensures live_err { OnErr result (self.new.live ≡ self.old.live) }
         ensures half { OnOk result (self.new.half + self.old.half ≡ 1) }

@@ -1,7 +1,8 @@
 -- Histories of a machine that keeps its laws.
-use Rattle.std.proofs.Common.{◌≡◌, ◌<◌, ◌≤◌, ◌+◌, ◌^◌, ℕ, Bool, true, false, cond, List, [], ◌∷◌, ◌++◌, length, Option, Some, None, Result, Ok, Err, refl, sym, subst, arith}
+use Rattle.std.proofs.Common.{◌≡◌, ◌<◌, ◌≤◌, ◌+◌, ℕ, Bool, true, false, cond, List, [], ◌∷◌, ◌++◌, length, Option, Some, None, Result, Ok, Err, refl, sym, subst, arith}
 use Rattle.std.specs.Prelude.{IsTrue}
 use Rattle.std.proofs.lemmas.List.{append-nil}
+use Rattle.ox_types.specs.Limits.{count_limit, time_limit}
 use Rattle.ox_types.specs.declared.log.Entry.{Entry}
 use Rattle.ox_types.specs.declared.log.EntryId.{EntryId}
 use Rattle.ox_types.specs.declared.log.EntryBody.{EntryBody}
@@ -55,7 +56,7 @@ module _ {S C R Q A : Type 0} (M : Meaning S C R Q A) (laws : IsMachine M) where
   good_at body.Pass is = tt
   good_at (body.Command bytes) is = good_of bytes is (whole_of M.commands bytes) refl
 
-  command_fits : (s : S) (id : EntryId) (time : ℕ) (o : Option C) → AllGood M o → M.fits id.offset s → id.offset < 2 ^ 53 → time ≤ 2 ^ 53 → M.fits (id.offset + 1) (after_command M s id time o)
+  command_fits : (s : S) (id : EntryId) (time : ℕ) (o : Option C) → AllGood M o → M.fits id.offset s → id.offset < count_limit → time ≤ time_limit → M.fits (id.offset + 1) (after_command M s id time o)
   command_fits s id time None good fits small short = laws.stays id.offset (id.offset + 1) s (omega arith) fits
   command_fits s id time (Some c) good fits small short =
       laws.steps s id time c (record { fits = fits; offset = small; time = short; lawful = good.lawful; read = good.read })

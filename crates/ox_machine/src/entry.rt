@@ -1,6 +1,7 @@
 //! The entries of a log at a machine.
-ghost use Rattle.std.specs.Prelude.{◌≡◌, ◌≤◌, ◌<◌, ◌+◌, ◌^◌, IsTrue, IfOk, OnOk, length};
+ghost use Rattle.std.specs.Prelude.{◌≡◌, ◌≤◌, ◌<◌, ◌+◌, IsTrue, IfOk, OnOk, length};
 ghost use Rattle.std.specs.Option.{ForSome};
+ghost use Rattle.ox_types.specs.Limits.{count_limit, time_limit};
 ghost use Rattle.ox_machine.specs.Meaning.{may_stand, reads};
 ghost use Rattle.ox_machine.specs.Laws.{command_limit};
 ghost use Rattle.ox_machine.specs.Store.{command_in, command_of, after_command, after, reply_to_command, reply_to, id_of};
@@ -62,8 +63,8 @@ pub fn apply_entry<M: Machine>(
     entry: &Entry,
 ) -> Result<Option<M::Reply>, NoMemory>
     requires fits { M.meaning.fits entry.now.offset machine.old }
-    requires offset { entry.now.offset < 2 ^ 53 }
-    requires time { entry.now.time ≤ 2 ^ 53 }
+    requires offset { entry.now.offset < count_limit }
+    requires time { entry.now.time ≤ time_limit }
     ensures state { OnOk result (machine.new ≡ after M.meaning machine.old entry.now) }
     ensures reply { IfOk result (λ reply. reply ≡ reply_to M.meaning machine.old entry.now) }
     ensures fits { OnOk result (M.meaning.fits (entry.now.offset + 1) machine.new) }

@@ -11,7 +11,7 @@ impl Field for RegisterCommand {
 
     ghost exact = { command_exact };
 
-    #[tactic(auto, unfolding(crate::specs::Forms::command))]
+    #[tactic(auto, using(ox_bytes::specs::WritingLaws::fronts), unfolding(crate::specs::Forms::command))]
     fn put(&self, to: &mut Writer) -> Result<(), NoMemory> {
         match *self {
             RegisterCommand::Set { to: value } => {
@@ -32,7 +32,7 @@ impl Field for RegisterCommand {
     }
 
     #[tactic(auto, unfolding(crate::specs::Forms::command, ox_bytes::specs::Fields::choice_at))]
-    fn take(from: &mut Reader<'_>) -> Result<RegisterCommand, FieldFault> {
+    fn read(from: &mut Reader<'_>) -> Result<RegisterCommand, FieldFault> {
         match from.take_tag(2)? {
             0 => {
                 let to = from.take_u64()?;
@@ -55,7 +55,7 @@ impl Field for RegisterQuery {
 
     ghost exact = { query_exact };
 
-    #[tactic(auto, unfolding(crate::specs::Forms::query))]
+    #[tactic(auto, using(ox_bytes::specs::WritingLaws::fronts), unfolding(crate::specs::Forms::query))]
     fn put(&self, to: &mut Writer) -> Result<(), NoMemory> {
         match self {
             RegisterQuery::Read => to.put_u8(0),
@@ -63,7 +63,7 @@ impl Field for RegisterQuery {
     }
 
     #[tactic(auto, unfolding(crate::specs::Forms::query, ox_bytes::specs::Fields::choice_at))]
-    fn take(from: &mut Reader<'_>) -> Result<RegisterQuery, FieldFault> {
+    fn read(from: &mut Reader<'_>) -> Result<RegisterQuery, FieldFault> {
         from.take_tag(1)?;
         Ok(RegisterQuery::Read)
     }
@@ -77,7 +77,7 @@ impl Field for RegisterReply {
 
     ghost exact = { reply_exact };
 
-    #[tactic(auto, unfolding(crate::specs::Forms::reply))]
+    #[tactic(auto, using(ox_bytes::specs::WritingLaws::fronts), unfolding(crate::specs::Forms::reply))]
     fn put(&self, to: &mut Writer) -> Result<(), NoMemory> {
         match *self {
             RegisterReply::Done => to.put_u8(0),
@@ -90,7 +90,7 @@ impl Field for RegisterReply {
     }
 
     #[tactic(auto, unfolding(crate::specs::Forms::reply, ox_bytes::specs::Fields::choice_at))]
-    fn take(from: &mut Reader<'_>) -> Result<RegisterReply, FieldFault> {
+    fn read(from: &mut Reader<'_>) -> Result<RegisterReply, FieldFault> {
         match from.take_tag(2)? {
             0 => Ok(RegisterReply::Done),
             _ => {

@@ -13,6 +13,3 @@ pub use law::{law_history_fits, law_history_goes_on, law_text_is_read};
 pub use machine::Machine;
 pub use ox_types::{Bad, EntryId, MachineFault, Part, Rule, Timer};
 pub use register::{Register, RegisterCommand, RegisterQuery, RegisterReply};
-
-#[cfg(test)]
-mod tests;

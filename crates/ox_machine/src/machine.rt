@@ -1,5 +1,6 @@
 //! The trait of machines: what a replica needs of what it replicates.
-ghost use Rattle.std.specs.Prelude.{◌≡◌, ◌≤◌, ◌<◌, ◌+◌, ◌^◌, ℕ, Ok, IsTrue, IfOk, OnOk, length};
+ghost use Rattle.std.specs.Prelude.{◌≡◌, ◌≤◌, ◌<◌, ◌+◌, ℕ, Ok, IsTrue, IfOk, OnOk, length};
+ghost use Rattle.ox_types.specs.Limits.{count_limit, time_limit};
 ghost use Rattle.ox_machine.specs.Meaning.{Meaning, reads};
 ghost use Rattle.ox_machine.specs.Bytes.{Answers, value_in};
 ghost use Rattle.ox_machine.specs.Laws.{IsMachine, IdsRise, command_limit};
@@ -37,8 +38,8 @@ pub trait Machine: Sized + Drop {
         command: &Self::Command,
     ) -> Result<Self::Reply, NoMemory>
         requires fits { meaning.fits id.offset self.old }
-        requires offset { id.offset < 2 ^ 53 }
-        requires time { time ≤ 2 ^ 53 }
+        requires offset { id.offset < count_limit }
+        requires time { time ≤ time_limit }
         requires lawful { IsTrue (meaning.commands.is_lawful command.now) }
         requires read { IsTrue (reads meaning command.now) }
         ensures state { OnOk result (self.new ≡ meaning.step self.old id time command.now) }
@@ -51,7 +52,7 @@ pub trait Machine: Sized + Drop {
     fn ask(&self, query: &Self::Query) -> Result<Self::Answer, NoMemory>
         ensures answer { IfOk result (λ answer. answer ≡ meaning.answer self.now query.now) }
         // Where the machine has applied a log, the answer can be written.
-        ensures lawful { (count : ℕ) → count ≤ 2 ^ 53 → meaning.fits count self.now → IsTrue (meaning.queries.is_lawful query.now) → IfOk result (λ answer. IsTrue (meaning.answers.is_lawful answer)) };
+        ensures lawful { (count : ℕ) → count ≤ count_limit → meaning.fits count self.now → IsTrue (meaning.queries.is_lawful query.now) → IfOk result (λ answer. IsTrue (meaning.answers.is_lawful answer)) };
 
     /// The one text of a command whose numbers are within their bounds.
     fn encode(alloc: Global, command: &Self::Command) -> Result<Octets, NoMemory>

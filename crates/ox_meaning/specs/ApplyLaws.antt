@@ -1,11 +1,12 @@
 -- What a command leaves behind: a state that fits one entry more, and replies that can be written.
-use Rattle.std.proofs.Common.{◌≡◌, ◌≤◌, ◌<◌, ◌∙◌, ◌+◌, ◌-◌, ◌*◌, ◌^◌, ℕ, Bool, true, List, [], ◌∷◌, ◌++◌, Option, Some, None, length, take, filter, sum_by, leb, ltb, refl, ap, arith, inl, inr, length-append}
+use Rattle.std.proofs.Common.{◌≡◌, ◌≤◌, ◌<◌, ◌∙◌, ◌+◌, ◌*◌, ◌^◌, ℕ, Bool, true, List, [], ◌∷◌, ◌++◌, Option, Some, None, length, filter, sum_by, leb, ltb, refl, ap, arith, inl, inr, length-append}
 use Rattle.std.specs.Prelude.{IsTrue, All, not, ◌==◌}
 use Rattle.std.specs.List.{list_all}
 use Rattle.std.specs.Option.{option_map}
 use Rattle.std.proofs.lemmas.Bool.{cases_Bool, lt-ltb, leb-true, ltb-false}
-use Rattle.std.proofs.lemmas.List.Elements.{All-nil, All-cons, All-head, All-tail, All-append, All-push, All-filter, All-weaker, All-map, All-take}
+use Rattle.std.proofs.lemmas.List.Elements.{All-nil, All-cons, All-head, All-tail, All-append, All-push, All-filter, All-weaker, All-map}
 use Rattle.std.proofs.lemmas.List.Filters.{length-filter_both}
+use Rattle.ox_types.specs.Limits.{count_limit, time_limit}
 use Rattle.ox_bytes.specs.Fields.{list, number64}
 use Rattle.ox_order.specs.declared.range.KeyRange.{KeyRange}
 use Rattle.ox_order.specs.Forms.{key_range}
@@ -24,7 +25,7 @@ use Rattle.ox_ops.specs.Forms.{put, delete, write_batch, command, op_reply, shar
 use Rattle.ox_ops.specs.State.{ShardState, Session, is_member, is_open}
 use Rattle.ox_ops.specs.Weight.{state_weight, weight_limit, session_weight, record_weight, batch_weight}
 use Rattle.ox_ops.specs.Operation.{Effect, put_on, delete_on, range_on}
-use Rattle.ox_ops.specs.Apply.{Applied, some_notice, and_then, each_on, batch_on, replied, open_on, closed, close_on, command_on, kept_time, kept_weight, with_batch, young, light, last_offset, retained, moved_to, with_notices, apply_entry}
+use Rattle.ox_ops.specs.Apply.{Applied, some_notice, and_then, each_on, batch_on, replied, open_on, closed, close_on, command_on, kept_time, kept_weight, with_batch, old, young, heavy, light, dropped, last_offset, retained, moved_to, with_notices, apply_entry}
 use Rattle.ox_ops.specs.Check.{put_fault, put_faults, bad_put, is_many, operations_in, command_fault}
 use Rattle.ox_machine.specs.Meaning.{reads}
 use Rattle.ox_meaning.specs.Fits.{IsMade, IsLeft, SessionsRise, FitsLog}
@@ -223,7 +224,7 @@ rise-last at timeout [] h below = (All-nil (λ (y : Session). at < y.id), tt)
 rise-last at timeout (x ∷ xs) h below =
     (All-push (λ (y : Session). x.id < y.id) xs (record { id = at; timeout = timeout }) h.0 (All-head (λ (y : Session). y.id < at) x xs below), rise-last at timeout xs h.1 (All-tail (λ (y : Session). y.id < at) x xs below))
 
-open_applied : (s : ShardState) (at timeout : ℕ) → at < 2 ^ 53 → IsKept s → IsSeated at s.sessions → IsApplied s at (open_on s at timeout)
+open_applied : (s : ShardState) (at timeout : ℕ) → at < count_limit → IsKept s → IsSeated at s.sessions → IsApplied s at (open_on s at timeout)
 open_applied s at timeout small kept seated = elim (cases_Bool (leb (state_weight s + session_weight) weight_limit)) [
   | inl fits ↦
       let light = leb-true (state_weight s + session_weight) weight_limit fits in
@@ -273,7 +274,7 @@ expire_id : (id : ℕ) → IsTrue (command.is_lawful (Expire id)) → IsTrue (nu
 unfolding command
 expire_id id h = h
 
-command_applied : (s : ShardState) (at : ℕ) (c : ShardCommand) → at < 2 ^ 53 → IsKept s → IsSeated at s.sessions → s.next_version + 1000 ≤ 2 ^ 63 → IsTrue (command.is_lawful c) → IsTrue (reads shard_meaning c) → IsApplied s at (command_on s at c)
+command_applied : (s : ShardState) (at : ℕ) (c : ShardCommand) → at < count_limit → IsKept s → IsSeated at s.sessions → s.next_version + 1000 ≤ 2 ^ 63 → IsTrue (command.is_lawful c) → IsTrue (reads shard_meaning c) → IsApplied s at (command_on s at c)
 command_applied s at (Write b) small kept seated room h r = write_applied s at b kept seated room (good_batch b h (write_none b r))
 command_applied s at (Open timeout) small kept seated room h r = open_applied s at timeout small kept seated
 command_applied s at (Close id) small kept seated room h r = close_applied s at id (close_id id h) kept seated
@@ -287,6 +288,16 @@ module _ (P : NoticeBatch → Type 0) where
   All-light (b ∷ batches) h =
       either (All P) (leb (sum_by batch_weight (b ∷ batches)) kept_weight) (b ∷ batches) (light batches) h (All-light batches (All-tail P b batches h))
 
+  All-heavy : (batches : List NoticeBatch) → All P batches → All P (heavy batches)
+  All-heavy [] h = h
+  All-heavy (b ∷ batches) h =
+      either (All P) (leb (sum_by batch_weight (b ∷ batches)) kept_weight) [] (b ∷ heavy batches) (All-nil P) (All-cons P b (heavy batches) (All-head P b batches h) (All-heavy batches (All-tail P b batches h)))
+
+  All-dropped : (time : ℕ) (batches : List NoticeBatch) → All P batches → All P (dropped time batches)
+  All-dropped time batches h =
+      All-append P (old time batches) (heavy (young time batches)) (All-filter (λ (b : NoticeBatch). not (leb time (b.time + kept_time))) P batches h)
+      (All-heavy (young time batches) (All-filter (λ (b : NoticeBatch). leb time (b.time + kept_time)) P batches h))
+
   All-with : (at time : ℕ) (notices : List Notice) (batches : List NoticeBatch) → P (record { offset = at; time = time; notices = notices }) → All P batches → All P (with_batch at time notices batches)
   All-with at time [] batches p h = h
   All-with at time (n ∷ notices) batches p h = All-push P batches (record { offset = at; time = time; notices = n ∷ notices }) h p
@@ -298,8 +309,8 @@ last_within low most (b ∷ batches) h all =
 
 retained_low : (s : ShardState) (at : ℕ) (batches : List NoticeBatch) → s.low ≤ at → All (IsLeft (at + 1)) batches → (retained s batches).low ≤ at
 retained_low s at batches h all =
-    last_within s.low at (take (length batches - length (light (young s.time batches))) batches) h
-    (All-take (λ (b : NoticeBatch). b.offset ≤ at) _ batches (All-weaker (IsLeft (at + 1)) (λ (b : NoticeBatch). b.offset ≤ at) (λ b l. let below = l.below in omega arith) batches all))
+    last_within s.low at (dropped s.time batches) h
+    (All-dropped (λ (b : NoticeBatch). b.offset ≤ at) s.time batches (All-weaker (IsLeft (at + 1)) (λ (b : NoticeBatch). b.offset ≤ at) (λ b l. let below = l.below in omega arith) batches all))
 
 retained_left : (s : ShardState) (at : ℕ) (batches : List NoticeBatch) → All (IsLeft (at + 1)) batches → All (IsLeft (at + 1)) (retained s batches).batches
 retained_left s at batches all = All-light (IsLeft (at + 1)) (young s.time batches) (All-filter (λ (b : NoticeBatch). leb s.time (b.time + kept_time)) (IsLeft (at + 1)) batches all)
@@ -326,22 +337,22 @@ with_notices_fits s at a done versions low left =
       left = retained_left a.state at (with_batch at a.state.time a.notices a.state.batches) batches;
     }
 
-moved_kept : (s : ShardState) (count t : ℕ) → FitsLog count s → t ≤ 2 ^ 53 → IsKept (moved_to t s)
+moved_kept : (s : ShardState) (count t : ℕ) → FitsLog count s → t ≤ time_limit → IsKept (moved_to t s)
 moved_kept s count t fits h = let now = fits.now in record { now = omega arith; weight = fits.weight; made = fits.made }
 
-entry_applied : (s : ShardState) (at t : ℕ) (c : ShardCommand) → at < 2 ^ 53 → t ≤ 2 ^ 53 → FitsLog at s → IsTrue (command.is_lawful c) → IsTrue (reads shard_meaning c) → IsApplied (moved_to t s) at (command_on (moved_to t s) at c)
+entry_applied : (s : ShardState) (at t : ℕ) (c : ShardCommand) → at < count_limit → t ≤ time_limit → FitsLog at s → IsTrue (command.is_lawful c) → IsTrue (reads shard_meaning c) → IsApplied (moved_to t s) at (command_on (moved_to t s) at c)
 entry_applied s at t c small short fits h r =
     let few = fits.versions in
     command_applied (moved_to t s) at c small (moved_kept s at t fits short) (record { rise = fits.rise; opened = fits.opened }) (omega arith) h r
 
 -- behind the entry the state fits one entry more
-pub entry_fits : (s : ShardState) (at t : ℕ) (c : ShardCommand) → at < 2 ^ 53 → t ≤ 2 ^ 53 → FitsLog at s → IsTrue (command.is_lawful c) → IsTrue (reads shard_meaning c) → FitsLog (at + 1) (apply_entry s at t c).state
+pub entry_fits : (s : ShardState) (at t : ℕ) (c : ShardCommand) → at < count_limit → t ≤ time_limit → FitsLog at s → IsTrue (command.is_lawful c) → IsTrue (reads shard_meaning c) → FitsLog (at + 1) (apply_entry s at t c).state
 unfolding apply_entry
 entry_fits s at t c small short fits h r =
     let mark = fits.mark in
     with_notices_fits (moved_to t s) at (command_on (moved_to t s) at c) (entry_applied s at t c small short fits h r) fits.versions (omega arith) fits.left
 
 -- the replies to the entry can be written
-pub entry_replies : (s : ShardState) (at t : ℕ) (c : ShardCommand) → at < 2 ^ 53 → t ≤ 2 ^ 53 → FitsLog at s → IsTrue (command.is_lawful c) → IsTrue (reads shard_meaning c) → IsTrue (shard_reply.is_lawful (record { ops = (apply_entry s at t c).replies }))
+pub entry_replies : (s : ShardState) (at t : ℕ) (c : ShardCommand) → at < count_limit → t ≤ time_limit → FitsLog at s → IsTrue (command.is_lawful c) → IsTrue (reads shard_meaning c) → IsTrue (shard_reply.is_lawful (record { ops = (apply_entry s at t c).replies }))
 unfolding apply_entry
 entry_replies s at t c small short fits h r = (entry_applied s at t c small short fits h r).replies

@@ -1,9 +1,9 @@
 -- One call more on a disk.
-use Rattle.std.proofs.Common.{Ok, Err, ◌≡◌, ◌⊎◌, inl, inr, ℕ, ◌+◌, ◌-◌, ◌^◌, ◌<◌, ◌≤◌, min, List, [], ◌∷◌, ◌++◌, length, take, drop, replicate, fold, refl, sym, ◌∙◌, ap, subst, arith, append_assoc, length-append}
+use Rattle.std.proofs.Common.{Result, Ok, Err, OnOk, OnErr, ◌≡◌, ◌⊎◌, inl, inr, ℕ, ◌+◌, ◌-◌, ◌^◌, ◌<◌, ◌≤◌, min, List, [], ◌∷◌, ◌++◌, length, take, drop, replicate, fold, refl, sym, ◌∙◌, ap, subst, arith, append_assoc, length-append}
 use Rattle.std.proofs.Math.Seq.{take-length}
 use Rattle.std.proofs.lemmas.List.{take_at, drop_at, length-take-le, take-append-le, drop-append-le, length-replicate}
 use Rattle.std.proofs.lemmas.List.Sums.{fold-append}
-use Rattle.ox_outside.specs.Disk.{MayLeave, Torn, Elapses, Stays, Writes, Syncs}
+use Rattle.ox_outside.specs.Disk.{MayLeave, Placed, Torn, Elapses, Stays, Writes, Syncs}
 use Rattle.ox_memory.specs.Log.{put, wrote, tore, Pending, seen_of, image_of, after_call, after, Fits, CutShort, Leaves, shown}
 use Rattle.ox_memory.specs.declared.log.Call.{Call}
 use Rattle.ox_memory.specs.declared.log.Call.TheVariants.{Write, Sync, Crash}
@@ -173,10 +173,19 @@ module _ (log more : List Call) (at : ℕ) (bytes : List ℕ) (is : more ≡ log
       let from = cut_push ((after log).safe) ((after log).writes) at bytes c cut in
       (from.0, now calls from.0 (inr from.1), from.2)
 
-  pub written : {T E : Type 0} (calls calls_new : ℕ) (x : T) → calls_new ≡ min (calls + 1) (2 ^ 64 - 1) → Writes {T = T} {E = E} (shown log calls) at bytes (shown more calls_new) (Ok x)
-  written calls calls_new x counted = record {
-    written = seen_more;
-    failed = tt;
+  done : {T E : Type 0} (r : Result T E) → OnOk r (Placed ((shown log 0).seen) at bytes ((shown more 0).seen))
+  done (Ok x) = seen_more
+  done (Err e) = tt
+
+  failed : {T E : Type 0} (calls_new : ℕ) (r : Result T E) → OnErr r (MayLeave (shown more calls_new) ((shown more calls_new).seen))
+  failed calls_new (Ok x) = tt
+  failed calls_new (Err e) = (length more, omega arith, omega arith, inl (ap (λ (l : List Call). seen_of (after l)) (sym (take-length more))))
+
+  -- whether it answers so or fails
+  pub written : {T E : Type 0} (calls calls_new : ℕ) (r : Result T E) → calls_new ≡ min (calls + 1) (2 ^ 64 - 1) → Writes (shown log calls) at bytes (shown more calls_new) r
+  written calls calls_new r counted = record {
+    written = done r;
+    failed = failed calls_new r;
     crash = λ c left. crash calls c (leaves_now log more (Write at bytes) is calls_new c left);
     time = elapses log more (Write at bytes) is calls calls_new counted;
   }

@@ -5,7 +5,7 @@ ghost use Rattle.ox_memory.specs.Log.{put, seen_of, image_of, after, Fits, shown
 ghost use Rattle.ox_memory.specs.declared.log.Call.TheVariants.{Write};
 ghost use Rattle.ox_memory.specs.Fitting.{fits_prop};
 
-use crate::counting::{fail, fails};
+use crate::counting::{answer, fail, fails, starve};
 use crate::log::{Call, Image, note};
 use crate::replay::{crash_files, put, replay};
 use crate::streams::copy_front;
@@ -14,11 +14,13 @@ use ox_types::{List, NoMemory, Octets};
 use std::alloc::Global;
 
 /// A blank file at first. It keeps each call that changed it, so it takes the memory of all bytes that were written.
+/// A write that is to fail counts as one: its bytes are there, and unsynced. `starved` counts the faults by want of memory.
 #[derive(Drop)]
 pub struct MemoryDisk {
     pub log: Vec<Call>,
     pub calls: u64,
     pub faults: u64,
+    pub starved: u64,
     pub failing: List<u64>,
     alloc: Global,
     file: Vec<u8>,
@@ -40,7 +42,7 @@ impl MemoryDisk {
         ensures blank { IfOk result (λ d. (shown d.log.items d.calls).seen ≡ []) }
         ensures synced { IfOk result (λ d. IsSynced (shown d.log.items d.calls)) }
         ensures sound { IfOk result (λ d. d.failing ≡ []) }
-        ensures counts { IfOk result (λ d. (d.calls ≡ 0) × (d.faults ≡ 0)) }
+        ensures counts { IfOk result (λ d. (d.calls ≡ 0) × (d.faults ≡ 0) × (d.starved ≡ 0)) }
     {
         MemoryDisk::with_failing(alloc, List::new(alloc))
     }
@@ -50,12 +52,13 @@ impl MemoryDisk {
         ensures blank { IfOk result (λ d. (shown d.log.items d.calls).seen ≡ []) }
         ensures synced { IfOk result (λ d. IsSynced (shown d.log.items d.calls)) }
         ensures failing { IfOk result (λ d. d.failing ≡ calls) }
-        ensures counts { IfOk result (λ d. (d.calls ≡ 0) × (d.faults ≡ 0)) }
+        ensures counts { IfOk result (λ d. (d.calls ≡ 0) × (d.faults ≡ 0) × (d.starved ≡ 0)) }
     {
         Ok(MemoryDisk {
             log: Vec::new(alloc),
             calls: 0,
             faults: 0,
+            starved: 0,
             failing: calls,
             alloc,
             file: Vec::new(alloc),
@@ -69,7 +72,7 @@ impl MemoryDisk {
         ensures seen { (shown self.new.log.items self.new.calls).seen ≡ image_of image (after self.old.log.items) }
         ensures left { MayLeave (shown self.old.log.items self.old.calls) ((shown self.new.log.items self.new.calls).seen) }
         ensures synced { IsSynced (shown self.new.log.items self.new.calls) }
-        ensures counts { (self.new.calls ≡ self.old.calls) × (self.new.faults ≡ self.old.faults) }
+        ensures counts { (self.new.calls ≡ self.old.calls) × (self.new.faults ≡ self.old.faults) × (self.new.starved ≡ self.old.starved) }
         ensures failing { self.new.failing ≡ self.old.failing }
     {
         if self.synced == self.log.len() {
@@ -121,11 +124,12 @@ fn add_write(
 }
 
 impl Disk for MemoryDisk {
-    ghost use Rattle.std.specs.Prelude.{◌≡◌, ◌≤◌, ◌+◌, ◌^◌, ◌<◌, ◌⊎◌, length, Contains, IfOk, OnOk, IsErr};
-    ghost use Rattle.ox_outside.specs.Causes.{HasCause};
+    ghost use Rattle.std.specs.Prelude.{◌≡◌, ◌≤◌, ◌+◌, ◌^◌, ◌<◌, ◌⊎◌, ◌++◌, ◌∷◌, [], length, Contains, IfOk, OnOk, IsErr};
+    ghost use Rattle.ox_outside.specs.Causes.{HasCause, Rose};
     ghost use Rattle.ox_outside.specs.Stream.{ReadsWithin};
     ghost use Rattle.ox_outside.specs.Disk.{Stays, Writes, Syncs, Reads};
     ghost use Rattle.ox_memory.specs.Log.{shown};
+    ghost use Rattle.ox_memory.specs.declared.log.Call.TheVariants.{Write};
 
     ghost tells = { Unit {0} };
 
@@ -157,12 +161,15 @@ impl Disk for MemoryDisk {
         ensures cause { HasCause self.old.faults self.new.faults result }
         ensures asked { Contains self.old.failing self.new.calls → IsErr result }
         ensures failing { self.new.failing ≡ self.old.failing }
+        ensures kept { at + length bytes.now < 2 ^ 63 → (self.new.log.items ≡ self.old.log.items ++ Write at bytes.now ∷ []) ⊎ Rose self.old.starved self.new.starved }
+        ensures only { IsErr result → Contains self.old.failing self.new.calls ⊎ (2 ^ 63 ≤ at + length bytes.now) ⊎ Rose self.old.starved self.new.starved }
     {
-        if fails(&mut self.calls, self.failing.as_slice()) || is_too_long(at, bytes.len()) {
+        let asked = fails(&mut self.calls, self.failing.as_slice());
+        if is_too_long(at, bytes.len()) {
             return Err(fail(&mut self.faults));
         }
         let Ok(bytes) = Octets::from_slice(self.alloc, bytes) else {
-            return Err(fail(&mut self.faults));
+            return Err(starve(&mut self.starved, &mut self.faults));
         };
         match add_write(
             &mut self.log,
@@ -171,8 +178,8 @@ impl Disk for MemoryDisk {
             at as usize,
             bytes,
         ) {
-            Ok(()) => Ok(()),
-            Err(_) => Err(fail(&mut self.faults)),
+            Ok(()) => answer(asked, &mut self.faults),
+            Err(_) => Err(starve(&mut self.starved, &mut self.faults)),
         }
     }
 
@@ -195,9 +202,13 @@ impl Disk for MemoryDisk {
         ensures cause { HasCause self.old.faults self.new.faults result }
         ensures asked { Contains self.old.failing self.new.calls → IsErr result }
         ensures failing { self.new.failing ≡ self.old.failing }
+        ensures only { IsErr result → Contains self.old.failing self.new.calls ⊎ Rose self.old.starved self.new.starved }
     {
-        if fails(&mut self.calls, self.failing.as_slice()) || self.log.try_reserve(1).is_err() {
+        if fails(&mut self.calls, self.failing.as_slice()) {
             return Err(fail(&mut self.faults));
+        }
+        if self.log.try_reserve(1).is_err() {
+            return Err(starve(&mut self.starved, &mut self.faults));
         }
         replay(&mut self.safe, &self.log[self.synced..]);
         note(&mut self.log, Call::Sync);

@@ -10,6 +10,3 @@ mod streams;
 pub use disk::MemoryDisk;
 pub use log::{Call, Image};
 pub use streams::{MemorySink, MemorySource};
-
-#[cfg(test)]
-mod tests;

@@ -12,8 +12,8 @@ use Rattle.ox_ops.specs.declared.notice.NoticeItem.{NoticeItem}
 use Rattle.ox_ops.specs.declared.notice.NoticeBatch.{NoticeBatch}
 use Rattle.ox_ops.specs.Answer.{items_in}
 use Rattle.ox_ops.specs.Page.{item_size}
-use Rattle.ox_page.specs.Filling.{Filling, Holds, has_room}
-use Rattle.ox_page.specs.FillingLaws.{holds-room, holds-full, holds-more}
+use Rattle.ox_ops.specs.Filling.{Filling, Holds, has_room}
+use Rattle.ox_ops.specs.FillingLaws.{holds-room, holds-full, holds-more}
 use Rattle.ox_notice.specs.Kept.{IsOrdered, item_at}
 
 ordered_at : (o t : ℕ) (batches : List NoticeBatch) → IsOrdered o t batches → (k : ℕ) (d : NoticeBatch) → k < length batches → o ≤ (slice_index_or batches k d).offset

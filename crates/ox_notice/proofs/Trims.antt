@@ -1,38 +1,18 @@
 -- Dropping the oldest one by one is the retention of the definitions.
-use Rattle.std.proofs.Common.{◌≡◌, ◌∙◌, sym, ap, refl, ℕ, suc, ◌+◌, ◌-◌, ◌<◌, ◌≤◌, Bool, true, false, leb, List, [], ◌∷◌, ◌++◌, length, take, sum_by, All, arith}
+use Rattle.std.proofs.Common.{◌≡◌, ◌∙◌, sym, ap, refl, ℕ, suc, ◌+◌, ◌<◌, ◌≤◌, Bool, true, false, leb, List, [], ◌∷◌, ◌++◌, length, sum_by, All, arith}
 use Rattle.std.proofs.lemmas.Bool.{leb-true, le-leb, lt-leb}
 use Rattle.std.proofs.lemmas.List.Sums.{sum_by-cons, sum_by-append}
 use Rattle.ox_ops.specs.declared.notice.Notice.{Notice}
 use Rattle.ox_ops.specs.declared.notice.NoticeBatch.{NoticeBatch}
 use Rattle.ox_ops.specs.State.{ShardState}
 use Rattle.ox_ops.specs.Weight.{batch_weight}
-use Rattle.ox_ops.specs.Apply.{kept_time, kept_weight, young, light, last_offset, retained, with_batch}
+use Rattle.ox_ops.specs.Apply.{kept_time, kept_weight, old, young, heavy, light, dropped, last_offset, retained, with_batch}
 use Rattle.ox_notice.specs.Kept.{Kept, kept_of, IsOrdered, IsHeld}
 use Rattle.ox_notice.specs.Trim.{trim}
 
--- what the definitions keep of batches
-abbrev kept_at : ℕ → List NoticeBatch → List NoticeBatch
-kept_at time batches = light (young time batches)
-
 -- the low mark and the batches of the definitions
-abbrev kept_from : ℕ → ℕ → List NoticeBatch → List NoticeBatch → Kept
-kept_from time low batches kept = record { low = last_offset low (take (length batches - length kept) batches); batches = kept }
-
-light-short : (batches : List NoticeBatch) → length (light batches) ≤ length batches
-light-short [] = omega arith
-light-short (b ∷ batches) = by_test (leb (sum_by batch_weight (b ∷ batches)) kept_weight) refl (light-short batches)
-  where
-    by_test : (t : Bool) → leb (sum_by batch_weight (b ∷ batches)) kept_weight ≡ t → length (light batches) ≤ length batches → length (light (b ∷ batches)) ≤ length (b ∷ batches)
-    by_test true e h = rw e (omega arith)
-    by_test false e h = rw e (omega arith)
-
-young-short : (time : ℕ) (batches : List NoticeBatch) → length (young time batches) ≤ length batches
-young-short time [] = omega arith
-young-short time (b ∷ batches) = by_test (leb time (b.time + kept_time)) refl (young-short time batches)
-  where
-    by_test : (t : Bool) → leb time (b.time + kept_time) ≡ t → length (young time batches) ≤ length batches → length (young time (b ∷ batches)) ≤ length (b ∷ batches)
-    by_test true e h = rw e (omega arith)
-    by_test false e h = rw e (omega arith)
+abbrev kept_from : ℕ → ℕ → List NoticeBatch → Kept
+kept_from time low batches = record { low = last_offset low (dropped time batches); batches = light (young time batches) }
 
 -- behind a young batch all are young
 all_young : (time o t : ℕ) (batches : List NoticeBatch) → IsOrdered o t batches → time ≤ t + kept_time → young time batches ≡ batches
@@ -42,40 +22,33 @@ all_young time o t (b ∷ batches) h le =
     let is : leb time (b.time + kept_time) ≡ true = le-leb _ _ (omega arith) in
     rw is (ap (λ (l : List NoticeBatch). b ∷ l) (all_young time (b.offset + 1) b.time batches h.2 (omega arith)))
 
-module _ (time low : ℕ) (b : NoticeBatch) (batches : List NoticeBatch) where
-  -- the first batch goes
-  goes : (kept : List NoticeBatch) → length kept ≤ length batches → kept_from time b.offset batches kept ≡ kept_from time low (b ∷ batches) kept
-  goes kept le =
-      let k : suc (length batches) - length kept ≡ suc (length batches - length kept) = omega arith in
-      let taken : last_offset low (take (suc (length batches) - length kept) (b ∷ batches)) ≡ last_offset b.offset (take (length batches - length kept) batches) =
-      ap (λ n. last_offset low (take n (b ∷ batches))) k in
-      ap (λ n. record { low = n; batches = kept }) (sym taken)
+-- and none is too old
+none_old : (time o t : ℕ) (batches : List NoticeBatch) → IsOrdered o t batches → time ≤ t + kept_time → old time batches ≡ []
+none_old time o t [] h le = refl
+none_old time o t (b ∷ batches) h le =
+    let later : t ≤ b.time = h.1 in
+    let is : leb time (b.time + kept_time) ≡ true = le-leb _ _ (omega arith) in
+    rw is (none_old time (b.offset + 1) b.time batches h.2 (omega arith))
 
-  none_goes : kept_from time low (b ∷ batches) (b ∷ batches) ≡ record { low = low; batches = b ∷ batches }
-  none_goes =
-      let k : suc (length batches) - suc (length batches) ≡ 0 = omega arith in
-      ap (λ n. record { low = last_offset low (take n (b ∷ batches)); batches = b ∷ batches }) k
-
-trim-is : (time low o t : ℕ) (batches : List NoticeBatch) → IsOrdered o t batches → trim time low batches ≡ kept_from time low batches (kept_at time batches)
+trim-is : (time low o t : ℕ) (batches : List NoticeBatch) → IsOrdered o t batches → trim time low batches ≡ kept_from time low batches
 trim-is time low o t [] h = refl
 trim-is time low o t (b ∷ batches) h =
     by_tests (leb time (b.time + kept_time)) (leb (sum_by batch_weight (b ∷ batches)) kept_weight) refl refl
     (trim-is time b.offset (b.offset + 1) b.time batches h.2)
     (λ le. all_young time (b.offset + 1) b.time batches h.2 le)
+    (λ le. none_old time (b.offset + 1) b.time batches h.2 le)
   where
-    shorter : length (kept_at time batches) ≤ length batches
-    shorter = let a = light-short (young time batches) in let c = young-short time batches in omega arith
-
     by_tests : (y l : Bool) → leb time (b.time + kept_time) ≡ y → leb (sum_by batch_weight (b ∷ batches)) kept_weight ≡ l
-        → trim time b.offset batches ≡ kept_from time b.offset batches (kept_at time batches)
+        → trim time b.offset batches ≡ kept_from time b.offset batches
         → (time ≤ b.time + kept_time → young time batches ≡ batches)
-        → trim time low (b ∷ batches) ≡ kept_from time low (b ∷ batches) (kept_at time (b ∷ batches))
-    by_tests false l e f rest same = rw e (rest ∙ goes time low b batches (kept_at time batches) shorter)
-    by_tests true true e f rest same =
-        rw (e, f, same (leb-true _ _ e)) (rw f (sym (none_goes time low b batches)))
-    by_tests true false e f rest same =
+        → (time ≤ b.time + kept_time → old time batches ≡ [])
+        → trim time low (b ∷ batches) ≡ kept_from time low (b ∷ batches)
+    by_tests false l e f rest same none = rw e rest
+    by_tests true true e f rest same none = rw (e, f, same (leb-true _ _ e), none (leb-true _ _ e)) (rw f refl)
+    by_tests true false e f rest same none =
         let young_is : young time batches ≡ batches = same (leb-true _ _ e) in
-        rw (e, f, young_is) (rw f (rest ∙ goes time low b batches (kept_at time batches) shorter ∙ ap (λ l. kept_from time low (b ∷ batches) (light l)) young_is))
+        let old_is : old time batches ≡ [] = none (leb-true _ _ e) in
+        rw (e, f, young_is, old_is) (rw f (rw (young_is, old_is) at rest))
 
 -- ---- what a batch adds
 

@@ -7,6 +7,3 @@ mod reading;
 mod weight;
 
 pub use notices::{AfterFault, NotRetained, NoticePage, Notices};
-
-#[cfg(test)]
-mod tests;

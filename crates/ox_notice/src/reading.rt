@@ -5,11 +5,10 @@ ghost use Rattle.ox_ops.specs.declared.notice.NoticeItem.{NoticeItem};
 ghost use Rattle.ox_ops.specs.declared.notice.NoticeBatch.{NoticeBatch};
 ghost use Rattle.ox_ops.specs.Answer.{items_in};
 ghost use Rattle.ox_ops.specs.Page.{item_size};
-ghost use Rattle.ox_page.specs.Filling.{Holds};
+ghost use Rattle.ox_ops.specs.Filling.{Holds};
 ghost use Rattle.ox_notice.specs.Kept.{IsOrdered, item_at};
 
-use ox_ops::{Notice, NoticeBatch, NoticeItem};
-use ox_page::{Page, notice_size};
+use ox_ops::{Notice, NoticeBatch, NoticeItem, Page, notice_size};
 use ox_types::NoMemory;
 use std::alloc::Global;
 use std::collections::VecDeque;

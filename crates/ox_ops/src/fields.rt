@@ -1,6 +1,7 @@
 // The bytes of the vocabulary (docs/FORMATS.md): a form for each type, and fields that several types have.
-ghost use Rattle.std.specs.Prelude.{◌≡◌, ◌++◌, IsTrue, OnOk};
+ghost use Rattle.std.specs.Prelude.{◌≡◌, IsTrue};
 ghost use Rattle.ox_bytes.specs.Reading.{Gives};
+ghost use Rattle.ox_bytes.specs.Writing.{Puts};
 ghost use Rattle.ox_bytes.specs.Fields.{option};
 ghost use Rattle.ox_ops.specs.Forms.{version, index_name};
 
@@ -15,12 +16,6 @@ use ox_types::{NoMemory, Octets};
 
 /// The most that a record's version is: 2^63 - 1.
 pub(crate) const VERSION_LIMIT: u64 = 9_223_372_036_854_775_807;
-
-/// The most that a time is: 2^53.
-pub(crate) const TIME_LIMIT: u64 = 9_007_199_254_740_992;
-
-/// The most that the offset of an entry is: 2^53 - 1.
-pub(crate) const OFFSET_LIMIT: u64 = 9_007_199_254_740_991;
 
 /// The most bytes of an index's name.
 const NAME_LIMIT: usize = 255;
@@ -38,9 +33,10 @@ pub(crate) fn take_name(from: &mut Reader<'_>) -> Result<Octets, FieldFault>
 }
 
 /// The name of an index, or none.
+#[tactic(auto, using(ox_bytes::specs::WritingLaws::fronts))]
 pub(crate) fn put_by(by: &Option<Octets>, to: &mut Writer) -> Result<(), NoMemory>
     requires { IsTrue ((option index_name).is_lawful by.now) }
-    ensures { OnOk result (to.new ≡ to.old ++ (option index_name).text by.now) }
+    ensures { Puts result to.old to.new ((option index_name).text by.now) }
 {
     match by {
         None => to.put_u8(0),
@@ -63,8 +59,9 @@ pub(crate) fn take_by(from: &mut Reader<'_>) -> Result<Option<Octets>, FieldFaul
 }
 
 /// The version of a record, or none.
+#[tactic(auto, using(ox_bytes::specs::WritingLaws::fronts))]
 pub(crate) fn put_version(found: &Option<u64>, to: &mut Writer) -> Result<(), NoMemory>
-    ensures { OnOk result (to.new ≡ to.old ++ (option version).text found.now) }
+    ensures { Puts result to.old to.new ((option version).text found.now) }
 {
     match found {
         None => to.put_u8(0),

@@ -1,18 +1,15 @@
-ghost use Rattle.std.specs.Prelude.{◌≡◌, ◌≤◌, ◌+◌, IsTrue, IfOk, OnErr, Option, length};
+ghost use Rattle.std.specs.Prelude.{◌≡◌, ◌≤◌, ◌+◌, IfOk, OnErr, length};
 ghost use Rattle.std.specs.List.{list_any};
-ghost use Rattle.ox_ops.specs.Forms.{command as command_form};
-ghost use Rattle.ox_ops.specs.Check.{same_entry, has_repeated, begins_with_0, is_any, put_fault, put_faults, is_many, operations_in, batch_fault, timeout_fault, command_fault, is_write};
+ghost use Rattle.ox_ops.specs.Size.{write_size as size_of_write};
+ghost use Rattle.ox_ops.specs.Check.{same_entry, has_repeated, begins_with_0, is_any, put_fault, put_faults, is_many, operations_in, batch_fault, timeout_fault, command_fault};
 
-use crate::codec::encode_command;
 use crate::write::{Expect, IndexEntry, Put, ShardCommand, WriteBatch};
-use ox_types::{Bad, KEY_LIMIT, NoMemory, Part, Rule};
+use crate::write_size::write_size;
+use ox_types::{Bad, COMMAND_LIMIT, KEY_LIMIT, NoMemory, Part, Rule};
 use std::alloc::Global;
 
 /// The most operations of a batch.
 const OPS_LIMIT: usize = 1000;
-
-/// The most bytes of a command's text.
-const COMMAND_LIMIT: usize = 2_097_152;
 
 /// The most deltas of a put, and the bytes that each adds to its key.
 const DELTA_LIMIT: usize = 8;
@@ -135,12 +132,12 @@ fn bad(part: Part, rule: Rule) -> Bad
     }
 }
 
-fn check_batch(batch: &WriteBatch, bytes: usize) -> Option<Bad>
-    ensures { result ≡ batch_fault batch.now bytes }
+fn check_batch(batch: &WriteBatch) -> Option<Bad>
+    ensures { result ≡ batch_fault batch.now (size_of_write batch.now) }
 {
     if has_many(batch) {
         Some(bad(Part::Batch, Rule::Ops))
-    } else if bytes > COMMAND_LIMIT {
+    } else if write_size(batch) > COMMAND_LIMIT as u64 {
         Some(bad(Part::Batch, Rule::Size))
     } else {
         check_puts(0, batch.puts.as_slice())
@@ -157,20 +154,15 @@ fn check_timeout(timeout: u64) -> Option<Bad>
     }
 }
 
-/// The first fault of a client's command (docs/STORE.md). The command's numbers are within their bounds, as those of a
-/// decoded one. It takes memory for the text of a write.
+/// The first fault of a client's command (docs/STORE.md), whether or not its numbers are within their bounds. It takes no
+/// memory: the bytes of a write's text are counted, and it isn't written.
 #[tactic(auto, unfolding(crate::specs::Check::command_fault))]
-pub fn check(alloc: Global, command: &ShardCommand) -> Result<Option<Bad>, NoMemory>
-    requires { IsTrue (command_form.is_lawful command.now) }
+pub fn check(_alloc: Global, command: &ShardCommand) -> Result<Option<Bad>, NoMemory>
     ensures fault { IfOk result (λ fault. fault ≡ command_fault command.now) }
-    // Only a write takes memory.
-    ensures memory { OnErr result (IsTrue (is_write command.now)) }
+    ensures memory { OnErr result ⊥ }
 {
     match command {
-        ShardCommand::Write(batch) => {
-            let text = encode_command(alloc, command)?;
-            Ok(check_batch(batch, text.len()))
-        }
+        ShardCommand::Write(batch) => Ok(check_batch(batch)),
         ShardCommand::Open { timeout } => Ok(check_timeout(*timeout)),
         ShardCommand::Close { .. } => Ok(None),
         ShardCommand::Expire { .. } => Ok(Some(bad(Part::Batch, Rule::Expire))),

@@ -11,7 +11,7 @@ impl Field for Lo {
 
     ghost exact = { lo_exact };
 
-    #[tactic(auto, unfolding(crate::specs::Forms::lo))]
+    #[tactic(auto, using(ox_bytes::specs::WritingLaws::fronts), unfolding(crate::specs::Forms::lo))]
     fn put(&self, to: &mut Writer) -> Result<(), NoMemory> {
         match self {
             Lo::Start => to.put_u8(0),
@@ -28,7 +28,7 @@ impl Field for Lo {
     }
 
     #[tactic(auto, unfolding(crate::specs::Forms::lo, ox_bytes::specs::Fields::choice_at))]
-    fn take(from: &mut Reader<'_>) -> Result<Lo, FieldFault> {
+    fn read(from: &mut Reader<'_>) -> Result<Lo, FieldFault> {
         match from.take_tag(3)? {
             0 => Ok(Lo::Start),
             1 => Ok(Lo::At(from.take_key()?)),
@@ -45,7 +45,7 @@ impl Field for Hi {
 
     ghost exact = { hi_exact };
 
-    #[tactic(auto, unfolding(crate::specs::Forms::hi))]
+    #[tactic(auto, using(ox_bytes::specs::WritingLaws::fronts), unfolding(crate::specs::Forms::hi))]
     fn put(&self, to: &mut Writer) -> Result<(), NoMemory> {
         match self {
             Hi::End => to.put_u8(0),
@@ -57,7 +57,7 @@ impl Field for Hi {
     }
 
     #[tactic(auto, unfolding(crate::specs::Forms::hi, ox_bytes::specs::Fields::choice_at))]
-    fn take(from: &mut Reader<'_>) -> Result<Hi, FieldFault> {
+    fn read(from: &mut Reader<'_>) -> Result<Hi, FieldFault> {
         match from.take_tag(2)? {
             0 => Ok(Hi::End),
             _ => Ok(Hi::Before(from.take_key()?)),
@@ -73,14 +73,14 @@ impl Field for KeyRange {
 
     ghost exact = { key_range_exact };
 
-    #[tactic(auto, unfolding(crate::specs::Forms::key_range))]
+    #[tactic(auto, using(ox_bytes::specs::WritingLaws::fronts), unfolding(crate::specs::Forms::key_range))]
     fn put(&self, to: &mut Writer) -> Result<(), NoMemory> {
         self.lo.put(to)?;
         self.hi.put(to)
     }
 
     #[tactic(auto, unfolding(crate::specs::Forms::key_range))]
-    fn take(from: &mut Reader<'_>) -> Result<KeyRange, FieldFault> {
+    fn read(from: &mut Reader<'_>) -> Result<KeyRange, FieldFault> {
         let lo = Field::take(from)?;
         let hi = Field::take(from)?;
         Ok(KeyRange { lo, hi })

@@ -10,6 +10,3 @@ pub use laws::{ranges_have_no_gaps, ranges_with_no_room_are_empty};
 pub use order::compare;
 pub use ox_types::{key_order_goes_by_slashes, key_order_is_total};
 pub use range::{Hi, KeyRange, Lo};
-
-#[cfg(test)]
-mod tests;

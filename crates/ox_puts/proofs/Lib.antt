@@ -7,7 +7,6 @@ pub mod Keyed
 pub mod Lawful
 pub mod Looks
 pub mod Operations
-pub mod Plain
 pub mod Puts
 pub mod Raised
 pub mod Weights

@@ -6,10 +6,11 @@ use Rattle.ox_ops.specs.declared.write.Put.{Put}
 use Rattle.ox_ops.specs.declared.write.Delete.{Delete}
 use Rattle.ox_ops.specs.declared.reply.OpReply.TheVariants as reply
 use Rattle.ox_ops.specs.declared.answer.Record.{Record}
-use Rattle.ox_ops.specs.State.{ShardState, record_of, is_open}
-use Rattle.ox_ops.specs.Operation.{Effect, meets, delete_on, delete_found, range_on, put_on, put_in_session, put_under, put_key}
+use Rattle.ox_ops.specs.State.{ShardState, record_of}
+use Rattle.ox_ops.specs.Operation.{meets, delete_on, delete_found, range_on, put_key}
 use Rattle.ox_puts.specs.declared.change.Change.{Change}
-use Rattle.ox_puts.specs.Records.{RecordsState, IsOf, IsLive}
+use Rattle.ox_puts.specs.Records.{RecordsState, IsOf}
+use Rattle.ox_puts.specs.Given.{put_given, put_in_session_given, put_under_given}
 use Rattle.ox_puts.specs.Changes.{effect, refusal_of, IsRemoved, IsRanged}
 use Rattle.ox_puts.proofs.Puts.{refused-is}
 
@@ -34,19 +35,15 @@ module _ (s : ShardState) (t : RecordsState) (of : IsOf s t) where
 
 -- ---- the session of a put
 
-module _ (s : ShardState) (p : Put) where
-  pub no_session-is : p.session ≡ None → put_on s p ≡ put_under s p (put_key s p p.deltas)
-  unfolding put_on
-  no_session-is e = ap (put_in_session s p) e
+module _ (s : ShardState) (other : ℕ) (p : Put) where
+  pub no_session-is : (live : Bool) → p.session ≡ None → put_given s other live p ≡ put_under_given s other p (put_key s p p.deltas)
+  unfolding put_given
+  no_session-is live e = ap (put_in_session_given s other live p) e
 
-  pub open_session-is : (id : ℕ) → p.session ≡ Some id → is_open id s.sessions ≡ true → put_on s p ≡ put_under s p (put_key s p p.deltas)
-  unfolding put_on
-  open_session-is id e open' = ap (put_in_session s p) e ∙ rw open' refl
+  pub open_session-is : (live : Bool) (id : ℕ) → p.session ≡ Some id → live ≡ true → put_given s other live p ≡ put_under_given s other p (put_key s p p.deltas)
+  unfolding put_given
+  open_session-is live id e open' = ap (put_in_session_given s other live p) e ∙ rw open' refl
 
-  pub closed_session-is : (t : RecordsState) → IsOf s t → (id : ℕ) → p.session ≡ Some id → is_open id s.sessions ≡ false → put_on s p ≡ effect s t (refusal_of (reply.SessionDoesNotExist id))
-  unfolding put_on
-  closed_session-is t of id e closed = ap (put_in_session s p) e ∙ rw closed (refused-is s t of (reply.SessionDoesNotExist id))
-
--- what is known of a session that is named
-pub live-is : (s : ShardState) (live : Bool) (session : Option ℕ) (id : ℕ) → session ≡ Some id → IsLive live session s.sessions → is_open id s.sessions ≡ live
-live-is s live session id e h = sym (rw e at h)
+  pub closed_session-is : (live : Bool) (t : RecordsState) → IsOf s t → (id : ℕ) → p.session ≡ Some id → live ≡ false → put_given s other live p ≡ effect s t (refusal_of (reply.SessionDoesNotExist id))
+  unfolding put_given
+  closed_session-is live t of id e closed = ap (put_in_session_given s other live p) e ∙ rw closed (refused-is s t of (reply.SessionDoesNotExist id))

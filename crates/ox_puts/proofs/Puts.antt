@@ -1,21 +1,16 @@
 -- The operations on a shard, told by its records.
-use Rattle.std.proofs.Common.{◌≡◌, ◌≤◌, ◌<◌, ◌∙◌, ◌+◌, ◌*◌, ◌-◌, ℕ, Bool, true, false, List, [], ◌∷◌, Option, Some, None, All, filter, length, sum_by, refl, sym, ap, subst, arith, inl, inr}
-use Rattle.std.specs.Prelude.{nat_le, not}
+use Rattle.std.proofs.Common.{◌≡◌, ◌≤◌, ◌<◌, ◌+◌, ◌-◌, ℕ, Bool, true, List, [], ◌∷◌, Option, Some, None, All, filter, sum_by, refl, sym, ap, subst, arith, inl, inr}
 use Rattle.std.specs.Option.{ForSome}
-use Rattle.std.proofs.lemmas.Grind.{common_steps}
 use Rattle.std.proofs.lemmas.Bool.{cases_Bool}
 use Rattle.std.proofs.lemmas.List.Elements.{All-append, All-cons, All-filter, All-head, All-tail, All-weaker}
 use Rattle.ox_table.specs.Table.{IsRising}
-use Rattle.ox_ops.specs.declared.write.Put.{Put}
 use Rattle.ox_ops.specs.declared.reply.OpReply.{OpReply}
-use Rattle.ox_ops.specs.declared.reply.OpReply.TheVariants as reply
 use Rattle.ox_ops.specs.declared.answer.Record.{Record}
 use Rattle.ox_ops.specs.State.{ShardState, has_key, record_of, with_record}
-use Rattle.ox_ops.specs.Weight.{record_weight, weight_of, weight_limit, session_weight}
-use Rattle.ox_ops.specs.Operation.{refused, stored, unless_full, put_at, put_record, meta_over, meets, version_of}
-use Rattle.ox_puts.specs.declared.change.Change.{Change}
-use Rattle.ox_puts.specs.Records.{RecordsState, IsOf, IsCounted, IsSound, IsKept, keyed, shard_at}
-use Rattle.ox_puts.specs.Changes.{effect, refusal_of, IsStored}
+use Rattle.ox_ops.specs.Weight.{record_weight, weight_limit}
+use Rattle.ox_ops.specs.Operation.{refused, meta_over}
+use Rattle.ox_puts.specs.Records.{RecordsState, IsOf, IsCounted, IsSound, IsKept, keyed}
+use Rattle.ox_puts.specs.Changes.{effect, refusal_of}
 
 some_is : (x y : Record) → Some x ≡ Some y → x ≡ y
 some_is x y h = cc
@@ -74,45 +69,6 @@ module _ (s : ShardState) (t : RecordsState) (of : IsOf s t) where
   -- a refusal changes nothing
   pub refused-is : (r : OpReply) → refused s r ≡ effect s t (refusal_of r)
   refused-is r = ap (λ (z : ShardState). record { state = z; reply = r; notice = None }) (sym same_shard)
-
-  -- the expectation fails
-  pub unexpected-is : (p : Put) (key : List ℕ) → meets p.expect (record_of key t.records) ≡ false → put_at s p key ≡ effect s t (refusal_of (reply.UnexpectedVersion (version_of (record_of key t.records))))
-  unexpected-is p key h =
-      let fails : meets p.expect (record_of key s.records) ≡ false = rw of.records h in
-      rw fails (ap (λ rs. refused s (reply.UnexpectedVersion (version_of (record_of key rs)))) of.records ∙ refused-is _)
-
-  -- the expectation holds
-  pub expected-is : (p : Put) (key : List ℕ) → meets p.expect (record_of key t.records) ≡ true → put_at s p key ≡ unless_full s (put_record s p key) (weight_of (with_record (put_record s p key) s.records) s.sessions)
-  expected-is p key h =
-      let holds : meets p.expect (record_of key s.records) ≡ true = rw of.records h in
-      rw holds refl
-
-  -- the shard would weigh too much
-  pub full-is : (r : Record) (weight : ℕ) → weight_limit < weight → unless_full s r weight ≡ effect s t (refusal_of (reply.ShardFull weight weight_limit))
-  full-is r weight h =
-      let over : nat_le weight weight_limit ≡ false = grind (arith, common_steps) in
-      rw over (refused-is _)
-
-  -- the record is stored
-  pub stored-is : (r : Record) (after : RecordsState) (change : Change) → IsStored r t after change → stored s r ≡ effect s after change
-  stored-is r after change h = rw (of.records, of.next_version, h.then, h.reply, h.notice) refl
-
-  pub within-is : (r : Record) (weight : ℕ) (after : RecordsState) (change : Change) → weight ≤ weight_limit → IsStored r t after change → unless_full s r weight ≡ effect s after change
-  within-is r weight after change h made =
-      let fits : nat_le weight weight_limit ≡ true = grind (arith, common_steps) in
-      rw fits (stored-is r after change made)
-
-  module _ (p : Put) (key : List ℕ) (time : ℕ) (at : s.time ≡ time) where
-    pub put_record-is : put_record s p key ≡ put_record (shard_at time t) p key
-    put_record-is = rw (of.records, of.next_version, at) refl
-
-    -- the record and the weight of a put, told by the records
-    pub over-is : (r : Record) (weight : ℕ) → r ≡ put_record (shard_at time t) p key → weight ≡ sum_by record_weight (with_record r t.records) + t.other
-        → unless_full s (put_record s p key) (weight_of (with_record (put_record s p key) s.records) s.sessions) ≡ unless_full s r weight
-    over-is r weight e w =
-        let same : put_record s p key ≡ r = put_record-is ∙ sym e in
-        let all : weight_of (with_record r s.records) s.sessions ≡ weight = ap (λ rs. sum_by record_weight (with_record r rs) + 64 * length s.sessions) of.records ∙ ap (λ n. sum_by record_weight (with_record r t.records) + n) of.other ∙ sym w in
-        ap (λ (q : Record). unless_full s q (weight_of (with_record q s.records) s.sessions)) same ∙ ap (unless_full s r) all
 
 -- ---- removals
 

@@ -1,11 +1,11 @@
 -- The records of a shard, and what they and its sessions weigh.
-use Rattle.std.specs.Prelude.{◌≡◌, ◌≤◌, ◌<◌, ◌+◌, ◌*◌, ℕ, Bool, All, List, [], map, length, sum_by, Option, Some, None, option_to_list}
+use Rattle.std.specs.Prelude.{◌≡◌, ◌≤◌, ◌<◌, ◌+◌, ℕ, Bool, All, List, [], map, sum_by, Option, Some, None, option_to_list}
 use Rattle.ox_table.specs.Table.{IsRising}
 use Rattle.ox_ops.specs.declared.reply.OpReply.{OpReply}
 use Rattle.ox_ops.specs.declared.reply.OpReply.TheVariants as reply
 use Rattle.ox_ops.specs.declared.answer.Record.{Record}
 use Rattle.ox_ops.specs.State.{ShardState, Session, record_of, is_open}
-use Rattle.ox_ops.specs.Weight.{record_weight, session_weight, weight_limit}
+use Rattle.ox_ops.specs.Weight.{record_weight, weight_limit}
 
 pub record RecordsState : Type 0 where
   -- with different keys, by rising key
@@ -47,11 +47,10 @@ pub record IsKept (t : RecordsState) (held : ℕ) : Type 0 where
   pub sound : IsSound t
   pub weight : held ≡ sum_by record_weight t.records
 
--- the shard has these records and this next version, and what else was charged is what its sessions weigh
+-- the shard has these records and this next version
 pub record IsOf (s : ShardState) (t : RecordsState) : Type 0 where
   pub records : s.records ≡ t.records
   pub next_version : s.next_version ≡ t.next_version
-  pub other : session_weight * length s.sessions ≡ t.other
 
 -- a shard with these records and this time, and no session
 abbrev pub shard_at : ℕ → RecordsState → ShardState

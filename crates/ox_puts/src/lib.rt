@@ -14,6 +14,3 @@ mod weight;
 pub use change::Change;
 pub use laws::sequence_keys_are_new;
 pub use records::Records;
-
-#[cfg(test)]
-mod tests;

@@ -3,14 +3,15 @@ ghost use Rattle.std.specs.Option.{option_copied};
 ghost use Rattle.ox_order.specs.Range.{in_range};
 ghost use Rattle.ox_ops.specs.declared.answer.Record.{Record};
 ghost use Rattle.ox_ops.specs.declared.reply.OpReply.TheVariants as reply;
-ghost use Rattle.ox_ops.specs.State.{ShardState, record_of, with_record, without_key};
-ghost use Rattle.ox_ops.specs.Weight.{entry_weight, record_weight as weight_of_record, weight_of, weight_limit};
-ghost use Rattle.ox_ops.specs.Operation.{meets as meets_of, put_record, put_at, put_key, put_on, put_under, unless_full, delete_on, range_on};
+ghost use Rattle.ox_ops.specs.State.{record_of, with_record, without_key};
+ghost use Rattle.ox_ops.specs.Weight.{entry_weight, record_weight as weight_of_record, weight_limit};
+ghost use Rattle.ox_ops.specs.Operation.{put_record, put_key, unless_full, delete_on, range_on};
 ghost use Rattle.ox_ops.specs.Forms.{put as put_form};
 ghost use Rattle.ox_ops.specs.Check.{put_fault};
 ghost use Rattle.ox_ops.specs.Answer.{compared};
-ghost use Rattle.ox_puts.specs.Records.{RecordsState, IsSound, IsOf, IsLive, keyed, weight_in, shard_at, replaced_by, deleted_by};
-ghost use Rattle.ox_puts.specs.Changes.{Makes, MakesAt, IsStored, IsRemoved, IsRanged, effect};
+ghost use Rattle.ox_puts.specs.Records.{RecordsState, IsSound, keyed, weight_in, shard_at, replaced_by, deleted_by};
+ghost use Rattle.ox_puts.specs.Given.{put_given, put_under_given, put_at_given, weight_given};
+ghost use Rattle.ox_puts.specs.Changes.{Makes, MakesAt, IsStored, IsRemoved, IsRanged};
 
 use crate::change::{Change, refusal};
 use crate::next_key::next_key;
@@ -135,7 +136,7 @@ impl Records {
         requires next { self.old.next_version < 2 ^ 63 }
         requires lawful { IsTrue (put_form.is_lawful put.now) }
         requires faultless { put_fault put.now ≡ None }
-        ensures made { IfOk result (λ change. (s : ShardState) → IsOf s self.old → s.time ≡ time → IsLive session_live put.now.session s.sessions → put_on s put.now ≡ effect s self.new change) }
+        ensures made { IfOk result (λ change. MakesAt time (λ s. put_given s self.old.other session_live put.now) self.old self.new change) }
         ensures gone { IfOk result (λ change. change.gone ≡ replaced_by change.reply self.old.records) }
         ensures others { self.new.other ≡ self.old.other }
         ensures versions { self.new.next_version ≤ self.old.next_version + 1 }
@@ -248,7 +249,7 @@ impl Records {
         requires next { self.old.next_version < 2 ^ 63 }
         requires lawful { IsTrue (put_form.is_lawful put.now) }
         requires faultless { put_fault put.now ≡ None }
-        ensures made { IfOk result (λ change. MakesAt time (λ s. put_under s put.now (put_key s put.now put.now.deltas)) self.old self.new change) }
+        ensures made { IfOk result (λ change. MakesAt time (λ s. put_under_given s self.old.other put.now (put_key s put.now put.now.deltas)) self.old self.new change) }
         ensures gone { IfOk result (λ change. change.gone ≡ replaced_by change.reply self.old.records) }
         ensures others { self.new.other ≡ self.old.other }
         ensures versions { self.new.next_version ≤ self.old.next_version + 1 }
@@ -312,7 +313,7 @@ impl Records {
     fn put_unless_full(&mut self, put: &Put, key: &Key, time: u64) -> Result<Change, NoMemory>
         requires next { self.old.next_version < 2 ^ 63 }
         requires small { sum_by entry_weight put.now.indexes ≤ 268435456 }
-        ensures made { IfOk result (λ change. MakesAt time (λ s. unless_full s (put_record s put.now key.now) (weight_of (with_record (put_record s put.now key.now) s.records) s.sessions)) self.old self.new change) }
+        ensures made { IfOk result (λ change. MakesAt time (λ s. unless_full s (put_record s put.now key.now) (weight_given s self.old.other put.now key.now)) self.old self.new change) }
         ensures gone { IfOk result (λ change. change.gone ≡ replaced_by change.reply self.old.records) }
         ensures others { self.new.other ≡ self.old.other }
         ensures versions { self.new.next_version ≤ self.old.next_version + 1 }
@@ -334,7 +335,7 @@ impl Records {
     fn put_at_key(&mut self, put: &Put, key: &Key, time: u64) -> Result<Change, NoMemory>
         requires next { self.old.next_version < 2 ^ 63 }
         requires small { sum_by entry_weight put.now.indexes ≤ 268435456 }
-        ensures made { IfOk result (λ change. MakesAt time (λ s. put_at s put.now key.now) self.old self.new change) }
+        ensures made { IfOk result (λ change. MakesAt time (λ s. put_at_given s self.old.other put.now key.now) self.old self.new change) }
         ensures gone { IfOk result (λ change. change.gone ≡ replaced_by change.reply self.old.records) }
         ensures others { self.new.other ≡ self.old.other }
         ensures versions { self.new.next_version ≤ self.old.next_version + 1 }

@@ -1,5 +1,6 @@
 -- The greatest number that passes a test, from above.
-use Rattle.std.proofs.Common.{◌≡◌, ℕ, zero, suc, ◌<◌, ◌≤◌, nat_le, ◌==◌, ◌&&◌, Bool, true, false, Some, None, if◌then◌else◌, refl, ◌∙◌, arith, inl, inr}
+use Rattle.std.proofs.Common.{◌≡◌, ℕ, zero, suc, ◌<◌, ◌≤◌, nat_le, ◌==◌, ◌&&◌, Bool, true, false, Option, Some, None, if◌then◌else◌, refl, sym, ap, ◌∙◌, arith, inl, inr}
+use Rattle.std.specs.Prelude.{min}
 use Rattle.std.proofs.lemmas.Bool.{cases_lt}
 use Rattle.ox_quorum.specs.CommonPoint.{greatest}
 
@@ -40,3 +41,25 @@ greatest_below test least (suc n) lower le fails = elim (cases_lt lower (suc n))
       let e : lower ≡ suc n = omega arith in
       rw e refl
 ]
+
+-- the least number alone
+pub greatest_alone : (test : ℕ → Bool) (n : ℕ) → test n ≡ false → greatest test n n ≡ None
+unfolding greatest
+greatest_alone test zero h = rw h refl
+greatest_alone test (suc n) h = fails_here test (suc n) n h ∙ greatest_nowhere test (suc n) n (omega arith)
+
+module _ (limit x y a b most : ℕ) (first : a ≡ min limit x) (second : b ≡ min limit y) (is : most ≡ min a b) (test : ℕ → Bool) (least : ℕ) where
+  most_is : most ≡ min limit (min x y)
+  most_is = omega arith
+
+  pub none_to : most < least → None ≡ greatest test least (min limit (min x y))
+  none_to less = sym (greatest_nowhere test least (min limit (min x y)) (omega (arith, less, most_is)))
+
+  pub found_to : (found : Option ℕ) → found ≡ greatest test least most → found ≡ greatest test least (min limit (min x y))
+  found_to found h = h ∙ ap (greatest test least) most_is
+
+  -- a limit that is above both is none
+  pub unlimited : x ≤ limit → y ≤ limit → greatest test least (min limit (min x y)) ≡ greatest test least (min x y)
+  unlimited le too =
+      let same : min limit (min x y) ≡ min x y = omega (arith, le, too) in
+      ap (greatest test least) same

@@ -22,3 +22,8 @@ agree_at leader follower count = count == 0 || is_same_term (term_at leader (cou
 abbrev pub common_point_of : TermTable → TermTable → Option ℕ
 common_point_of leader follower =
     greatest (agree_at leader follower) (max leader.base.count follower.base.count) (min (table_head leader).count (table_head follower).count)
+
+-- the same among the counts up to a limit
+abbrev pub common_point_to : ℕ → TermTable → TermTable → Option ℕ
+common_point_to limit leader follower =
+    greatest (agree_at leader follower) (max leader.base.count follower.base.count) (min limit (min (table_head leader).count (table_head follower).count))

@@ -1,6 +1,7 @@
 // The bytes of ensembles and configs (docs/FORMATS.md).
-ghost use Rattle.std.specs.Prelude.{◌≡◌, ◌<◌, ◌+◌, ◌^◌, ◌++◌, OnOk, IfOk};
+ghost use Rattle.std.specs.Prelude.{◌≡◌, ◌<◌, ◌+◌, ◌^◌, IfOk};
 ghost use Rattle.ox_bytes.specs.Reading.{Gives};
+ghost use Rattle.ox_bytes.specs.Writing.{Puts};
 ghost use Rattle.ox_quorum.specs.Ensemble.{IsEnsemble};
 ghost use Rattle.ox_quorum.specs.Forms.{ensemble_size, node_from, ensemble as ensemble_form};
 
@@ -68,8 +69,9 @@ impl Field for Ensemble {
 
     ghost exact = { ensemble_exact };
 
+    #[tactic(auto, using(ox_bytes::specs::WritingLaws::fronts))]
     fn put(&self, to: &mut Writer) -> Result<(), NoMemory>
-        ensures { OnOk result (to.new ≡ to.old ++ ensemble.text self.now) }
+        ensures { Puts result to.old to.new (ensemble.text self.now) }
     {
         to.put_u32(self.nodes().len() as u32)?;
         for node in self.nodes() {
@@ -78,7 +80,7 @@ impl Field for Ensemble {
         Ok(())
     }
 
-    fn take(from: &mut Reader<'_>) -> Result<Ensemble, FieldFault> {
+    fn read(from: &mut Reader<'_>) -> Result<Ensemble, FieldFault> {
         let nodes = take_nodes(from)?;
         Ok(Ensemble::of(nodes.into_vec()))
     }
@@ -93,9 +95,9 @@ impl Field for Config {
 
     ghost exact = { config_exact };
 
-    #[tactic(auto, unfolding(crate::specs::Forms::config))]
+    #[tactic(auto, using(ox_bytes::specs::WritingLaws::fronts), unfolding(crate::specs::Forms::config))]
     fn put(&self, to: &mut Writer) -> Result<(), NoMemory>
-        ensures { OnOk result (to.new ≡ to.old ++ config.text self.now) }
+        ensures { Puts result to.old to.new (config.text self.now) }
     {
         match self {
             Config::One(a) => {
@@ -111,7 +113,7 @@ impl Field for Config {
     }
 
     #[tactic(auto, unfolding(crate::specs::Forms::config, ox_bytes::specs::Fields::choice_at))]
-    fn take(from: &mut Reader<'_>) -> Result<Config, FieldFault> {
+    fn read(from: &mut Reader<'_>) -> Result<Config, FieldFault> {
         match from.take_tag(2)? {
             0 => {
                 let a = Field::take(from)?;

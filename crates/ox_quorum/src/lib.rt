@@ -11,6 +11,3 @@ pub use config::{Config, meets, next_config};
 pub use ensemble::{ENSEMBLE_LIMIT, Ensemble, EnsembleFault};
 pub use law::{law_config, law_ensemble};
 pub use point::common_point;
-
-#[cfg(test)]
-mod tests;

@@ -1,10 +1,10 @@
 ghost use Rattle.std.specs.Prelude.{◌≤◌, ◌^◌, IfOk};
-ghost use Rattle.ox_replica.specs.Inputs.{IsInput};
+ghost use Rattle.ox_solo_replica.specs.Inputs.{IsInput};
 
 use ox_machine::Register;
 use ox_memory::{Image, MemoryDisk};
 use ox_quorum::{Config, Ensemble};
-use ox_replica::{Answered, Input, Outgoing, Output, Replica};
+use ox_solo_replica::{Answered, Input, Outgoing, Output, Replica};
 use ox_types::{CoordId, List, NodeId, Octets, Peer, Refusal, Seat, Term};
 use ox_wire::{Asked, Body, Outcome};
 use std::alloc::Global;

@@ -5,9 +5,9 @@ use Rattle.std.specs.List.{flat_map}
 use Rattle.std.proofs.lemmas.Grind.{common_steps}
 use Rattle.std.proofs.lemmas.Bool.{eq-eqb}
 use Rattle.ox_types.specs.declared.log.Entry.{Entry}
-use Rattle.ox_safety.specs.declared.origin.Cause.{Cause}
-use Rattle.ox_safety.specs.declared.origin.Origin.{Origin}
-use Rattle.ox_safety.specs.Origins.{AreInStep}
+use Rattle.ox_wire.specs.declared.origin.Cause.{Cause}
+use Rattle.ox_wire.specs.declared.origin.Origin.{Origin}
+use Rattle.ox_wire.specs.Origins.{AreInStep}
 use Rattle.ox_report.specs.History.{cause_of, entry_text, entry_line}
 
 -- the origin at a place is the first one of its place

@@ -8,9 +8,8 @@ use Rattle.ox_ops.specs.declared.notice.Notice.{Notice}
 use Rattle.ox_ops.specs.declared.notice.Notice.TheVariants as notice
 use Rattle.ox_ops.specs.declared.notice.NoticeItem.{NoticeItem}
 use Rattle.ox_ops.specs.declared.write.IndexEntry.{IndexEntry}
-use Rattle.ox_schedule.specs.Line.{behind_space, spaced}
-use Rattle.ox_schedule.specs.Spelling.{spelt, value_word, range_words}
-use Rattle.ox_report.specs.Field.{field, field_or, meta_fields}
+use Rattle.ox_text.specs.Words.{behind_space, spaced, spelt, value_word, range_words, field, field_or}
+use Rattle.ox_report.specs.Field.{meta_fields}
 
 -- ---- records
 

@@ -11,10 +11,9 @@ use Rattle.ox_ops.specs.declared.reply.ShardReply.{ShardReply}
 use Rattle.ox_ops.specs.Forms.{shard_reply, answer}
 use Rattle.ox_wire.specs.declared.message.Outcome.{Outcome}
 use Rattle.ox_wire.specs.declared.message.Outcome.TheVariants as outcome
-use Rattle.ox_schedule.specs.Line.{behind_space}
-use Rattle.ox_safety.specs.Event.{Effect}
-use Rattle.ox_safety.specs.Event.{Effect as effect}
-use Rattle.ox_report.specs.Field.{field}
+use Rattle.ox_text.specs.Words.{behind_space, field}
+use Rattle.ox_wire.specs.Effects.{Effect}
+use Rattle.ox_wire.specs.Effects.{Effect as effect}
 use Rattle.ox_report.specs.Reply.{replies_text}
 use Rattle.ox_report.specs.Answer.{answer_text}
 use Rattle.ox_report.specs.Refusal.{seat_name, refusal_text}

@@ -9,11 +9,10 @@ use Rattle.ox_machine.specs.Bytes.{value_in}
 use Rattle.ox_ops.specs.declared.write.ShardCommand.{ShardCommand}
 use Rattle.ox_ops.specs.declared.write.ShardCommand.TheVariants.{Write, Open, Close, Expire}
 use Rattle.ox_ops.specs.Forms.{command}
-use Rattle.ox_schedule.specs.Line.{behind_space}
-use Rattle.ox_safety.specs.declared.origin.Cause.{Cause}
-use Rattle.ox_safety.specs.declared.origin.Cause.TheVariants as cause
-use Rattle.ox_safety.specs.declared.origin.Origin.{Origin}
-use Rattle.ox_report.specs.Field.{field}
+use Rattle.ox_text.specs.Words.{behind_space, field}
+use Rattle.ox_wire.specs.declared.origin.Cause.{Cause}
+use Rattle.ox_wire.specs.declared.origin.Cause.TheVariants as cause
+use Rattle.ox_wire.specs.declared.origin.Origin.{Origin}
 
 -- where an entry of the shard comes from
 abbrev pub cause_of : ℕ → Entry → List Origin → Cause

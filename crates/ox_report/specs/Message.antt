@@ -12,8 +12,7 @@ use Rattle.ox_wire.specs.declared.body.Asked.TheVariants as asked
 use Rattle.ox_wire.specs.declared.body.Body.{Body}
 use Rattle.ox_wire.specs.declared.body.Body.TheVariants as body
 use Rattle.ox_wire.specs.declared.body.Follower.{Follower}
-use Rattle.ox_schedule.specs.Line.{behind_space}
-use Rattle.ox_report.specs.Field.{field}
+use Rattle.ox_text.specs.Words.{behind_space, field}
 use Rattle.ox_report.specs.Refusal.{refusal_text}
 
 -- who sends or takes a message: n and a node, or c and a coordinator

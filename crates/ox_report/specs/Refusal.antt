@@ -9,8 +9,7 @@ use Rattle.ox_types.specs.declared.log.Seat.{Seat}
 use Rattle.ox_types.specs.declared.log.Seat.TheVariants as seat
 use Rattle.ox_types.specs.declared.refusal.Refusal.{Refusal}
 use Rattle.ox_types.specs.declared.refusal.Refusal.TheVariants as refusal
-use Rattle.ox_schedule.specs.Line.{behind_space}
-use Rattle.ox_report.specs.Field.{field, field_or}
+use Rattle.ox_text.specs.Words.{behind_space, field, field_or}
 
 -- the part of a request that is at fault
 abbrev pub part_name : Part → List ℕ

@@ -4,8 +4,8 @@ use Rattle.std.specs.List.{join_by}
 use Rattle.ox_ops.specs.declared.reply.OpReply.{OpReply}
 use Rattle.ox_ops.specs.declared.reply.OpReply.TheVariants as reply
 use Rattle.ox_ops.specs.declared.reply.ShardReply.{ShardReply}
-use Rattle.ox_schedule.specs.Spelling.{spelt}
-use Rattle.ox_report.specs.Field.{field, field_or, meta_fields}
+use Rattle.ox_text.specs.Words.{spelt, field, field_or}
+use Rattle.ox_report.specs.Field.{meta_fields}
 
 -- the reply to one operation: its word and its fields in order
 abbrev pub reply_text : OpReply → List ℕ

@@ -1,14 +1,12 @@
 // Answers: records, notices, and pages of them.
 ghost use Rattle.std.specs.Prelude.{◌≡◌, ◌++◌, OnOk, OnErr, codes};
 ghost use Rattle.std.specs.List.{flat_map};
-ghost use Rattle.ox_schedule.specs.Line.{behind_space};
-ghost use Rattle.ox_schedule.specs.Spelling.{spelt, value_word};
-ghost use Rattle.ox_report.specs.Field.{field, field_or};
+ghost use Rattle.ox_text.specs.Words.{behind_space, spelt, value_word, field, field_or};
 ghost use Rattle.ox_report.specs.Answer.{index_text, record_text, notice_text, all_word, page_head, key_item, record_item, notice_item, answer_text};
 
-use crate::field::{add_count, add_counts, add_field, add_meta};
+use crate::field::add_meta;
 use ox_ops::{IndexEntry, Notice, NoticeItem, Record, ShardAnswer};
-use ox_schedule::{add_bytes, add_key, add_range, add_value};
+use ox_text::{add_bytes, add_count, add_counts, add_field, add_key, add_range, add_value};
 use ox_types::{Key, NoMemory, Octets, Value};
 use std::alloc::Global;
 

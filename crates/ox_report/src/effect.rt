@@ -1,19 +1,19 @@
 // What is seen of an event, a line each.
 ghost use Rattle.std.specs.Prelude.{◌≡◌, ◌++◌, ◌∷◌, [], OnOk, codes, decimal};
 ghost use Rattle.std.specs.List.{flat_map, join_by};
-ghost use Rattle.ox_safety.specs.Event.{Effect as effect};
-ghost use Rattle.ox_safety.specs.Run.{kept_effects};
+ghost use Rattle.ox_wire.specs.Effects.{Effect as effect};
+ghost use Rattle.ox_wire.specs.Effects.{kept_effects};
 ghost use Rattle.ox_report.specs.Refusal.{seat_name};
 ghost use Rattle.ox_report.specs.Message.{head_text};
 ghost use Rattle.ox_report.specs.Effect.{reply_text_in, answer_text_in, outcome_text, act_text, kept_text, effect_text, effect_line};
 ghost use Rattle.ox_wire.specs.declared.message.Outcome.TheVariants as outcome_is;
 
 use crate::answer::write_answer;
-use crate::field::{add_count, add_counts, add_field, add_joined};
 use crate::message::{add_body, add_head, add_peer};
 use crate::refusal::{add_seat_name, write_refusal};
 use crate::reply::write_replies;
 use ox_ops::{decode_answer, decode_reply};
+use ox_text::{add_count, add_counts, add_field, add_joined};
 use ox_types::{Head, KeptAs, MachineFault, NoMemory, Octets, Peer, Refusal, Seat, Term};
 use ox_wire::{Body, Outcome};
 use std::alloc::Global;

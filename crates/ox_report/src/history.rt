@@ -3,13 +3,13 @@ ghost use Rattle.std.specs.Prelude.{◌≡◌, ◌++◌, ◌<◌, OnOk, IfSome, 
 ghost use Rattle.std.specs.List.{flat_map};
 ghost use Rattle.ox_machine.specs.Bytes.{value_in};
 ghost use Rattle.ox_ops.specs.Forms.{command};
-ghost use Rattle.ox_safety.specs.Origins.{AreInStep};
+ghost use Rattle.ox_wire.specs.Origins.{AreInStep};
 ghost use Rattle.ox_report.specs.History.{cause_of, by_arrival, command_text, command_told, what_text, entry_text, entry_line, history_text};
 
-use crate::field::{add_count, add_counts, add_field};
 use ox_ops::{ShardCommand, decode_command};
-use ox_safety::{Cause, Origin};
+use ox_text::{add_count, add_counts, add_field};
 use ox_types::{Entry, EntryBody, MachineFault, NoMemory, Octets};
+use ox_wire::{Cause, Origin};
 use std::alloc::Global;
 
 /// A word, and the arrival that an entry comes from.

@@ -17,10 +17,3 @@ pub use effect::{
 pub use history::{add_entry, add_history};
 pub use refusal::add_refusal;
 pub use reply::{add_replies, add_reply};
-
-#[cfg(test)]
-mod line_tests;
-#[cfg(test)]
-mod message_tests;
-#[cfg(test)]
-mod tests;

@@ -2,15 +2,14 @@
 ghost use Rattle.std.specs.Prelude.{◌≡◌, ◌++◌, ◌+◌, OnOk, codes, decimal};
 ghost use Rattle.std.specs.List.{flat_map, join_by};
 ghost use Rattle.ox_types.specs.Log.{table_head};
-ghost use Rattle.ox_schedule.specs.Line.{behind_space};
-ghost use Rattle.ox_report.specs.Field.{field};
+ghost use Rattle.ox_text.specs.Words.{behind_space, field};
 ghost use Rattle.ox_report.specs.Refusal.{refusal_text};
 ghost use Rattle.ox_report.specs.Message.{peer_text, head_text, nodes_text, config_text, asked_name, follower_text, followers_text, body_text};
 
-use crate::field::{add_count, add_counts, add_field, add_joined, add_number};
 use crate::refusal::write_refusal;
 use itoa::Buffer;
 use ox_quorum::Config;
+use ox_text::{add_count, add_counts, add_field, add_joined, add_number};
 use ox_types::{Chunk, Head, NoMemory, NodeId, Octets, Peer, Refusal, Term, TermTable};
 use ox_wire::{Asked, Body, Follower};
 

@@ -1,10 +1,9 @@
 // Refusals.
 ghost use Rattle.std.specs.Prelude.{◌≡◌, ◌++◌, OnOk, OnErr, codes};
-ghost use Rattle.ox_schedule.specs.Line.{behind_space};
-ghost use Rattle.ox_report.specs.Field.{field, field_or};
+ghost use Rattle.ox_text.specs.Words.{behind_space, field, field_or};
 ghost use Rattle.ox_report.specs.Refusal.{part_name, bad_rule_name, seat_name, bad_text, refusal_text};
 
-use crate::field::{add_count, add_counts, add_field};
+use ox_text::{add_count, add_counts, add_field};
 use ox_types::{Bad, NoMemory, NodeId, Octets, Part, Refusal, Rule, Seat, ShardId, Term};
 use std::alloc::Global;
 

@@ -1,13 +1,13 @@
 // The replies to a command.
 ghost use Rattle.std.specs.Prelude.{◌≡◌, ◌++◌, OnOk, OnErr, codes};
 ghost use Rattle.std.specs.List.{flat_map};
-ghost use Rattle.ox_schedule.specs.Spelling.{spelt};
-ghost use Rattle.ox_report.specs.Field.{field_or, meta_fields};
+ghost use Rattle.ox_text.specs.Words.{spelt, field_or};
+ghost use Rattle.ox_report.specs.Field.{meta_fields};
 ghost use Rattle.ox_report.specs.Reply.{reply_text, replies_text};
 
-use crate::field::{add_count, add_counts, add_field, add_meta};
+use crate::field::add_meta;
 use ox_ops::{Meta, OpReply, ShardReply};
-use ox_schedule::add_key;
+use ox_text::{add_count, add_counts, add_field, add_key};
 use ox_types::{Key, NoMemory, Octets};
 use std::alloc::Global;
 

@@ -11,9 +11,11 @@ use Rattle.ox_ops.specs.declared.write.ShardCommand.TheVariants as command
 use Rattle.ox_ops.specs.declared.reply.Meta.{Meta}
 use Rattle.ox_ops.specs.declared.reply.OpReply.{OpReply}
 use Rattle.ox_ops.specs.declared.query.ShardQuery.{ShardQuery}
+use Rattle.ox_ops.specs.declared.notice.Notice.TheVariants as notice
+use Rattle.ox_ops.specs.declared.notice.NoticeBatch.{NoticeBatch}
 use Rattle.ox_ops.specs.declared.answer.ShardAnswer.{ShardAnswer}
 use Rattle.ox_ops.specs.State.{ShardState, empty_state}
-use Rattle.ox_ops.specs.Apply.{apply_entry}
+use Rattle.ox_ops.specs.Apply.{apply_entry, retained}
 use Rattle.ox_ops.specs.Answer.{answer_to}
 
 -- a command of an entry, and the entry's time
@@ -86,6 +88,18 @@ sessions = at_0 (command.Open 5000) ∷ at_0 (put_in (codes "e1") (codes "x") 1)
 
 abbrev pub retention : ℕ → List Timed
 retention time = at_0 (put (codes "a") (codes "x")) ∷ record { time = time; command = put (codes "b") (codes "y") } ∷ []
+
+-- a batch of one notice
+abbrev pub batch_at : ℕ → ℕ → NoticeBatch
+batch_at offset time = record { offset = offset; time = time; notices = notice.Deleted (codes "a") ∷ [] }
+
+-- batches of which the one in the middle is the oldest
+abbrev pub falling : List NoticeBatch
+falling = batch_at 1 1 ∷ batch_at 2 0 ∷ batch_at 3 1 ∷ []
+
+-- what is kept of them an hour after the first
+abbrev pub after_falling : ShardState
+after_falling = retained (record empty_state { time = 3600001 }) falling
 
 abbrev pub owners : List Timed
 owners = at_0 (put_by (codes "a") (codes "x") (codes "owner") (codes "b1")) ∷ at_0 (put_by (codes "b") (codes "y") (codes "owner") (codes "b1")) ∷ []

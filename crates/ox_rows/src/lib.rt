@@ -10,7 +10,7 @@ ghost use Rattle.ox_ops.specs.declared.query.Compare.TheVariants.{Equal, Floor};
 ghost use Rattle.ox_ops.specs.declared.answer.ShardAnswer.TheVariants as answer;
 ghost use Rattle.ox_ops.specs.declared.notice.Notice.TheVariants as notice;
 ghost use Rattle.ox_ops.specs.Page.{page_of, is_more};
-ghost use Rattle.ox_rows.specs.Rows.{replies_of, asked_after, all_keys, keys_order, expectations, sequence, sessions, retention, owners, ranged, once, itself};
+ghost use Rattle.ox_rows.specs.Rows.{replies_of, asked_after, all_keys, keys_order, expectations, sequence, sessions, retention, batch_at, after_falling, owners, ranged, once, itself};
 
 /// Keys are listed in their order, and a range by slashes.
 pub fn row_of_key_order()
@@ -41,6 +41,12 @@ pub fn row_of_retention()
     ensures after_0 { asked_after (retention 3600001) (query.Notices 0 0) ≡ answer.NotRetained 0 1 }
     ensures after_2 { asked_after (retention 3600001) (query.Notices 2 0) ≡ answer.Notices [] false }
     ensures in_time { asked_after (retention 3600000) (query.Notices 0 0) ≡ answer.Notices (record { offset = 1; notice = notice.Created (codes "a") 0 } ∷ record { offset = 2; notice = notice.Created (codes "b") 1 } ∷ []) false }
+{}
+
+/// Where times fall, the low mark is that of the batch that was dropped last, and those before it are kept.
+pub fn row_of_falling_times()
+    ensures low { after_falling.low ≡ 2 }
+    ensures kept { after_falling.batches ≡ batch_at 1 1 ∷ batch_at 3 1 ∷ [] }
 {}
 
 /// Equal secondary keys go by key: a get of the key takes the first, and a floor the last.

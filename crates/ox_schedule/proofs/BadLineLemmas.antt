@@ -6,7 +6,7 @@ use Rattle.ox_types.specs.declared.ended.LineRule.{LineRule}
 use Rattle.ox_types.specs.declared.ended.LineRule.TheVariants as rule
 use Rattle.ox_schedule.specs.declared.fault.ScheduleFault.{ScheduleFault}
 use Rattle.ox_schedule.specs.declared.fault.ScheduleFault.TheVariants as fault
-use Rattle.ox_schedule.specs.declared.schedule.Event.{Event}
+use Rattle.ox_schedule.specs.Events.{Event}
 use Rattle.ox_schedule.specs.declared.schedule.Places.{Places}
 use Rattle.ox_schedule.specs.declared.schedule.First.{First}
 use Rattle.ox_schedule.specs.declared.schedule.Schedule.{Schedule}

@@ -18,7 +18,8 @@ use Rattle.ox_ops.specs.declared.write.Delete.{Delete}
 use Rattle.ox_order.specs.declared.range.KeyRange.{KeyRange}
 use Rattle.ox_ops.specs.declared.write.WriteBatch.{WriteBatch}
 use Rattle.ox_schedule.specs.Shape.{ops_in}
-use Rattle.ox_schedule.specs.Spelling.{spelt, value_word, is_empty, expect_words, session_words, deltas_words, entry_word, put_options, lo_word, hi_word, is_put, is_delete, is_range, put_op, delete_op, range_op, batch_ops, joined, are_lawful}
+use Rattle.ox_text.specs.Words.{spelt, value_word, lo_word, hi_word}
+use Rattle.ox_schedule.specs.Spelling.{is_empty, expect_words, session_words, deltas_words, entry_word, put_options, is_put, is_delete, is_range, put_op, delete_op, range_op, batch_ops, joined, are_lawful}
 use Rattle.ox_schedule.specs.Reading.{op_onto, ops_onto, batch_of, empty_batch, with_put, with_delete, with_range}
 use Rattle.ox_schedule.proofs.Words.{both, two, same_bytes, no_mark, some_word}
 use Rattle.ox_schedule.proofs.Steps.{bind_ok, chosen, word_is}

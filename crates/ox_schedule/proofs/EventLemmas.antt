@@ -2,11 +2,11 @@
 use Rattle.std.proofs.Common.{◌≡◌, ◌∙◌, ℕ, true, ◌&&◌, cond, List, [], ◌∷◌, codes, decimal, Ok, Err, inl, inr, refl, ap, subst}
 use Rattle.std.specs.Str.{bytes_eq}
 use Rattle.ox_types.specs.declared.ended.LineRule.TheVariants as rule
-use Rattle.ox_schedule.specs.declared.schedule.Image.{Image}
-use Rattle.ox_schedule.specs.declared.schedule.Image.TheVariants as image
-use Rattle.ox_schedule.specs.declared.schedule.Turn.TheVariants.{Client, Deliver, Tick}
-use Rattle.ox_schedule.specs.declared.schedule.Event.{Event}
-use Rattle.ox_schedule.specs.declared.schedule.Event.TheVariants as event
+use Rattle.ox_wire.specs.declared.event.Image.{Image}
+use Rattle.ox_wire.specs.declared.event.Image.TheVariants as image
+use Rattle.ox_wire.specs.declared.event.Turn.TheVariants.{Client, Deliver, Tick}
+use Rattle.ox_schedule.specs.Events.{Event}
+use Rattle.ox_wire.specs.declared.event.Event.TheVariants as event
 use Rattle.ox_schedule.specs.declared.schedule.Places.{Places}
 use Rattle.ox_schedule.specs.Outcome.{◌>>=◌}
 use Rattle.ox_schedule.specs.Shape.{event_fits, is_image}

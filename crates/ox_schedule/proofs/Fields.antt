@@ -12,7 +12,8 @@ use Rattle.ox_order.specs.declared.range.Hi.{Hi}
 use Rattle.ox_order.specs.declared.range.Hi.TheVariants.{End, Before}
 use Rattle.ox_order.specs.declared.range.KeyRange.{KeyRange}
 use Rattle.ox_schedule.specs.Outcome.{◌>>=◌}
-use Rattle.ox_schedule.specs.Spelling.{spelt, value_word, is_key, is_value, is_number, is_expect, is_session, is_entry, is_empty, expect_words, session_words, deltas_words, entry_word, are_options, is_put, put_words, is_delete, delete_words, is_lo, lo_word, is_hi, hi_word, is_range, range_words, is_by, by_words, compare_word, is_query, query_words}
+use Rattle.ox_text.specs.Words.{spelt, value_word, lo_word, hi_word, range_words}
+use Rattle.ox_schedule.specs.Spelling.{is_key, is_value, is_number, is_expect, is_session, is_entry, is_empty, expect_words, session_words, deltas_words, entry_word, are_options, is_put, put_words, is_delete, delete_words, is_lo, is_hi, is_range, is_by, by_words, compare_word, is_query, query_words}
 use Rattle.ox_ops.specs.declared.query.Compare.{Compare}
 use Rattle.ox_ops.specs.declared.query.Compare.TheVariants.{Equal, Floor, Ceiling, Lower, Higher}
 use Rattle.ox_ops.specs.declared.query.ShardQuery.{ShardQuery}

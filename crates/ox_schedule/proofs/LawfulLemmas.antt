@@ -28,15 +28,14 @@ use Rattle.ox_bytes.specs.Fields as field
 use Rattle.ox_ops.specs.Forms as form
 use Rattle.ox_schedule.specs.declared.schedule.Grouping.{Grouping}
 use Rattle.ox_schedule.specs.declared.schedule.Request.TheVariants.{Write, Read}
-use Rattle.ox_schedule.specs.declared.schedule.Image.{Image}
-use Rattle.ox_schedule.specs.declared.schedule.Turn.{Turn}
-use Rattle.ox_schedule.specs.declared.schedule.Turn.TheVariants.{Client, Deliver, Tick}
-use Rattle.ox_schedule.specs.declared.schedule.Event.{Event}
-use Rattle.ox_schedule.specs.declared.schedule.Event.TheVariants as event
+use Rattle.ox_wire.specs.declared.event.Image.{Image}
+use Rattle.ox_schedule.specs.Events.{Turn, Event}
+use Rattle.ox_wire.specs.declared.event.Turn.TheVariants.{Client, Deliver, Tick}
+use Rattle.ox_wire.specs.declared.event.Event.TheVariants as event
 use Rattle.ox_schedule.specs.declared.schedule.Places.{Places}
 use Rattle.ox_schedule.specs.declared.schedule.Schedule.{Schedule}
-use Rattle.ox_schedule.specs.Spelling.{is_key, is_value, is_byte, is_name, is_number, is_alone, is_expect, is_session, is_entry, is_by, value_word, spelt, expect_words, session_words, numbers_text, deltas_words, entry_word, put_options, is_lo, is_hi, is_range, is_put, is_delete, are_lawful, is_query, is_turn, is_event, put_op, delete_op, range_op, batch_ops, joined, grouping_words, request_words, image_word, turn_words, event_line}
-use Rattle.ox_schedule.specs.Line.{spaced}
+use Rattle.ox_text.specs.Words.{value_word, spelt, spaced}
+use Rattle.ox_schedule.specs.Spelling.{is_key, is_value, is_byte, is_name, is_number, is_alone, is_expect, is_session, is_entry, is_by, expect_words, session_words, numbers_text, deltas_words, entry_word, put_options, is_lo, is_hi, is_range, is_put, is_delete, are_lawful, is_query, is_turn, is_event, put_op, delete_op, range_op, batch_ops, joined, grouping_words, request_words, image_word, turn_words, event_line}
 use Rattle.ox_schedule.specs.Lawful.{turn_encodable, asks_encodable}
 use Rattle.ox_schedule.specs.Schedule.{SpellsSchedule, lines_of, places_of, first_line}
 use Rattle.ox_schedule.proofs.Words.{both, two}

@@ -2,9 +2,9 @@
 use Rattle.std.proofs.Common.{◌≡◌, ◌∙◌, ℕ, true, false, not, codes, decimal, eqb, cond, List, [], ◌∷◌, length, ◌<◌, Ok, Err, inl, inr, refl, sym, ap, subst, arith}
 use Rattle.std.specs.List.{list_all, join_with_byte}
 use Rattle.ox_types.specs.declared.ended.LineRule.TheVariants as rule
-use Rattle.ox_schedule.specs.declared.schedule.Event.{Event}
-use Rattle.ox_schedule.specs.declared.schedule.Event.TheVariants as event
-use Rattle.ox_schedule.specs.declared.schedule.Turn.TheVariants.{Client, Deliver, Tick}
+use Rattle.ox_schedule.specs.Events.{Event}
+use Rattle.ox_wire.specs.declared.event.Event.TheVariants as event
+use Rattle.ox_wire.specs.declared.event.Turn.TheVariants.{Client, Deliver, Tick}
 use Rattle.ox_schedule.specs.declared.schedule.Places.{Places}
 use Rattle.ox_schedule.specs.Shape.{event_fits}
 use Rattle.ox_schedule.specs.Spelling.{is_event, is_word, words_of, request_words, image_word, turn_words, event_words, event_line, SpellsEvent}

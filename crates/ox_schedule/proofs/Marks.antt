@@ -8,7 +8,7 @@ use Rattle.std.proofs.lemmas.List.Folds.{list_all-append}
 use Rattle.std.proofs.lemmas.Bool.Decides.{nat_tests}
 use Rattle.percent_encoding.specs.Percent.{percent_encode_byte}
 use Rattle.percent_encoding.proofs.PercentLemmas.{IsEscapeByte, All-percent_encode_byte}
-use Rattle.ox_schedule.specs.Spelling.{is_plain, escape, spelt}
+use Rattle.ox_text.specs.Words.{is_plain, escape, spelt}
 use Rattle.ox_schedule.proofs.Words.{two}
 use Rattle.ox_schedule.proofs.JoinLemmas.{lacks}
 

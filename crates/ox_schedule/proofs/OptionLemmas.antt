@@ -15,7 +15,8 @@ use Rattle.ox_ops.specs.declared.write.Expect.{Expect}
 use Rattle.ox_ops.specs.declared.write.Expect.TheVariants.{Any, Absent, Exactly}
 use Rattle.ox_ops.specs.declared.write.IndexEntry.{IndexEntry}
 use Rattle.ox_schedule.specs.Outcome.{◌>>=◌}
-use Rattle.ox_schedule.specs.Spelling.{spelt, is_key, is_name, is_number, is_expect, expect_words, is_session, session_words, numbers_text, deltas_words, is_entry, entry_word, is_by, by_words}
+use Rattle.ox_text.specs.Words.{spelt}
+use Rattle.ox_schedule.specs.Spelling.{is_key, is_name, is_number, is_expect, expect_words, is_session, session_words, numbers_text, deltas_words, is_entry, entry_word, is_by, by_words}
 use Rattle.ox_schedule.specs.Reading.{after, name_of, number_of, each_of, expect_of, session_of, deltas_of, by_of, onto_name, at_colon, entry_in, entry_of, entry_given, entry_option, option_given, option_at, expect_at, session_at, deltas_at, by_at, index_of, options_end}
 use Rattle.ox_schedule.proofs.Words.{both, two, same_bytes, key_is, key_again, name_is, name_again, number_is, number_again}
 use Rattle.ox_schedule.proofs.JoinLemmas.{lacks, parts_of, parts_joined}

@@ -5,7 +5,7 @@ use Rattle.std.specs.Str.{bytes_eq}
 use Rattle.std.proofs.lemmas.Bool.{eqb-true, leb-true, lt-ltb}
 use Rattle.ox_types.specs.declared.ended.LineRule.{LineRule}
 use Rattle.ox_types.specs.declared.ended.LineRule.TheVariants as rule
-use Rattle.ox_schedule.specs.declared.schedule.Event.{Event}
+use Rattle.ox_schedule.specs.Events.{Event}
 use Rattle.ox_schedule.specs.declared.schedule.Places.{Places}
 use Rattle.ox_schedule.specs.declared.schedule.First.{First}
 use Rattle.ox_schedule.specs.declared.schedule.First.TheVariants.{Solo}

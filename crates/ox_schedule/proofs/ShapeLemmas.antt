@@ -14,11 +14,13 @@ use Rattle.ox_order.specs.declared.range.Hi.TheVariants.{End, Before}
 use Rattle.ox_ops.specs.declared.write.Expect.TheVariants.{Any, Absent, Exactly}
 use Rattle.percent_encoding.specs.Percent.{percent_decode}
 use Rattle.std.specs.Str.Parse.{digits_value}
-use Rattle.ox_schedule.specs.Spelling.{spelt, value_word, is_key, is_value, is_name, is_number, is_empty, is_node, is_shard, is_call, is_term, is_word, words_of}
+use Rattle.ox_text.specs.Words.{spelt, value_word}
+use Rattle.ox_schedule.specs.Spelling.{is_key, is_value, is_name, is_number, is_empty, is_node, is_shard, is_call, is_term, is_word, words_of}
 use Rattle.ox_schedule.proofs.TurnLemmas.{node_is, shard_is}
 use Rattle.ox_schedule.proofs.EventLemmas.{call_is}
-use Rattle.ox_schedule.specs.declared.schedule.Image.TheVariants as image
-use Rattle.ox_schedule.specs.declared.schedule.Turn.TheVariants.{Deliver}
+use Rattle.ox_wire.specs.declared.event.Image.TheVariants as image
+use Rattle.ox_wire.specs.declared.event.Turn.TheVariants.{Deliver}
+use Rattle.ox_schedule.specs.Events.{Turn}
 use Rattle.ox_schedule.specs.Outcome.{◌>>=◌, said}
 use Rattle.ox_schedule.specs.Shape.{ops_in, is_compare, write_fits, op_fits, get_fits, single_fits, request_fits, client_fits, turn_fits, is_image, cut_fits, event_fits}
 use Rattle.ox_schedule.specs.Reading.{after, word_at, number_of, key_of, key_at, value_of, value_guess, value_at, name_of, each_of, session_of, deltas_of, at_colon, entry_in, entry_of, entry_given, entry_option, by_of, option_given, option_at, expect_of, expect_at, session_at, deltas_at, by_at, index_of, options_end, number_at, single_of, notices_of, lo_given, lo_of, hi_of, compare_of, range_at, range_of, ends_of, put_of, delete_of, get_of, with_put, with_delete, op_onto, ops_onto, batch_of, alone_of, request_of, node_at, shard_at, client_of, tick_of, turn_of, call_at, image_of, cut_of, node_of, term_of, seat_of, event_of, line_at, empty_batch}
@@ -404,7 +406,7 @@ tick_fine p ws h =
     bind_fine (shard_at p x.1) _ (shard_fine p x.1 (omega (arith, h, ap length (node_is p ws x e).0))) (λ y f.
     bind_fine (single_of y.1) _ (single_fine y.1 (omega (arith, h, ap length (node_is p ws x e).0, ap length (shard_is p x.1 y f).0))) (λ n g. (record { is = refl }))))
 
-deliver_fine : (ws : List (List ℕ)) → length ws ≡ 1 → Fine (single_of ws >>= λ message. Ok (Deliver message))
+deliver_fine : (ws : List (List ℕ)) → length ws ≡ 1 → Fine {A = Turn} (single_of ws >>= λ message. Ok (Deliver message))
 deliver_fine ws h = bind_fine (single_of ws) (λ message. Ok (Deliver message)) (single_fine ws (omega (arith, h))) (λ n e. (record { is = refl }))
 
 turn_fine : (p : Places) (ws : List (List ℕ)) → turn_fits ws ≡ true → Fine (turn_of p ws)

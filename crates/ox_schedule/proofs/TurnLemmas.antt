@@ -18,12 +18,13 @@ use Rattle.ox_ops.specs.declared.query.ShardQuery.TheVariants as query
 use Rattle.ox_schedule.specs.declared.schedule.Grouping.TheVariants as grouping
 use Rattle.ox_schedule.specs.declared.schedule.Request.{Request}
 use Rattle.ox_schedule.specs.declared.schedule.Request.TheVariants.{Write, Read}
-use Rattle.ox_schedule.specs.declared.schedule.Turn.{Turn}
-use Rattle.ox_schedule.specs.declared.schedule.Turn.TheVariants.{Client, Deliver, Tick}
+use Rattle.ox_schedule.specs.Events.{Turn}
+use Rattle.ox_wire.specs.declared.event.Turn.TheVariants.{Client, Deliver, Tick}
 use Rattle.ox_schedule.specs.declared.schedule.Places.{Places}
 use Rattle.ox_schedule.specs.Outcome.{◌>>=◌}
 use Rattle.ox_schedule.specs.Shape.{op_fits, write_fits, get_fits, range_fits, single_fits, request_fits, turn_fits, is_compare}
-use Rattle.ox_schedule.specs.Spelling.{is_number, is_node, is_shard, is_put, is_delete, is_range, names_node, names_shard, is_request, is_turn, put_op, delete_op, range_op, batch_ops, joined, are_lawful, spelt, range_words, by_words, put_options, expect_words, compare_word, request_words, turn_words}
+use Rattle.ox_text.specs.Words.{spelt, range_words}
+use Rattle.ox_schedule.specs.Spelling.{is_number, is_node, is_shard, is_put, is_delete, is_range, names_node, names_shard, is_request, is_turn, put_op, delete_op, range_op, batch_ops, joined, are_lawful, by_words, put_options, expect_words, compare_word, request_words, turn_words}
 use Rattle.ox_schedule.specs.Reading.{word_at, number_of, empty_batch, with_put, with_delete, with_range, op_onto, alone_of, request_of, node_at, shard_at, client_of, tick_of, turn_of, single_of}
 use Rattle.ox_schedule.proofs.Words.{both, two, number_is, number_again}
 use Rattle.ox_schedule.proofs.Steps.{bind_ok, chosen, word_is}

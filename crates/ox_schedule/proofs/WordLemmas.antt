@@ -8,8 +8,7 @@ use Rattle.std.proofs.lemmas.List.Elements.{All-head, All-tail}
 use Rattle.std.proofs.lemmas.List.Folds.{list_all-append}
 use Rattle.std.proofs.lemmas.Bool.Decides.{Decides-ltb, nat_tests}
 use Rattle.percent_encoding.specs.Percent.{percent_encode_byte}
-use Rattle.percent_encoding.proofs.PercentLemmas.{IsEscapeByte, All-percent_encode_byte, percent_encode_nonempty}
-use Rattle.ox_schedule.specs.declared.escape.TheConstants.{ESCAPED}
+use Rattle.percent_encoding.proofs.PercentLemmas.{IsEscapeByte, All-percent_encode_byte}
 use Rattle.ox_order.specs.declared.range.Lo.{Lo}
 use Rattle.ox_order.specs.declared.range.Lo.TheVariants.{Start, At, Past}
 use Rattle.ox_order.specs.declared.range.Hi.{Hi}
@@ -28,15 +27,16 @@ use Rattle.ox_ops.specs.declared.query.ShardQuery.TheVariants as query
 use Rattle.ox_schedule.specs.declared.schedule.Grouping.TheVariants as grouping
 use Rattle.ox_schedule.specs.declared.schedule.Request.{Request}
 use Rattle.ox_schedule.specs.declared.schedule.Request.TheVariants.{Write, Read}
-use Rattle.ox_schedule.specs.declared.schedule.Image.{Image}
-use Rattle.ox_schedule.specs.declared.schedule.Image.TheVariants as image
-use Rattle.ox_schedule.specs.declared.schedule.Turn.{Turn}
-use Rattle.ox_schedule.specs.declared.schedule.Turn.TheVariants.{Client, Deliver, Tick}
-use Rattle.ox_schedule.specs.declared.schedule.Event.{Event}
-use Rattle.ox_schedule.specs.declared.schedule.Event.TheVariants as event
+use Rattle.ox_wire.specs.declared.event.Image.{Image}
+use Rattle.ox_wire.specs.declared.event.Image.TheVariants as image
+use Rattle.ox_schedule.specs.Events.{Turn, Event}
+use Rattle.ox_wire.specs.declared.event.Turn.TheVariants.{Client, Deliver, Tick}
+use Rattle.ox_wire.specs.declared.event.Event.TheVariants as event
 use Rattle.ox_schedule.specs.declared.schedule.Places.{Places}
-use Rattle.ox_schedule.specs.Spelling.{is_plain, escape, spelt, is_printable, is_word, is_key, is_number, is_expect, is_session, is_by, session_words, numbers_text, deltas_words, entry_word, by_words, put_options, is_lo, is_hi, is_range, is_put, is_delete, are_lawful, is_alone, names_node, names_shard, is_seat, is_request, is_turn, is_event, value_word, expect_words, lo_word, hi_word, range_words, put_op, delete_op, range_op, batch_ops, joined, compare_word, request_words, turn_words, image_word, event_words}
-use Rattle.ox_schedule.proofs.Words.{both, two, spelt_is, some_word}
+use Rattle.ox_text.specs.Words.{is_plain, escape, spelt, value_word, lo_word, hi_word, range_words}
+use Rattle.ox_schedule.specs.Spelling.{is_printable, is_word, is_key, is_number, is_expect, is_session, is_by, session_words, numbers_text, deltas_words, entry_word, by_words, put_options, is_lo, is_hi, is_range, is_put, is_delete, are_lawful, is_alone, names_node, names_shard, is_seat, is_request, is_turn, is_event, expect_words, put_op, delete_op, range_op, batch_ops, joined, compare_word, request_words, turn_words, image_word, event_words}
+use Rattle.ox_text.specs.SpellingLaws.{spelling_some}
+use Rattle.ox_schedule.proofs.Words.{both, two, some_word}
 use Rattle.ox_schedule.proofs.Fields.{PutParts, put_parts}
 
 plain_is_printable : (b : ℕ) → is_plain b ≡ true → is_printable b ≡ true
@@ -68,7 +68,7 @@ some_is_word [] some h = absurd (omega arith)
 some_is_word (b ∷ bs) some h = let nz : eqb (suc (length bs)) 0 ≡ false = grind (arith, common_steps) in rw nz h
 
 spelt_is_word : (bytes : List ℕ) → 0 < length bytes → is_word (spelt bytes) ≡ true
-spelt_is_word bytes some = some_is_word (spelt bytes) (subst (λ (t : List ℕ). 0 < length t) (spelt_is bytes) (percent_encode_nonempty ESCAPED bytes some)) (spelt_is_printable bytes)
+spelt_is_word bytes some = some_is_word (spelt bytes) (spelling_some bytes some) (spelt_is_printable bytes)
 
 some_key : (key : List ℕ) → is_key key ≡ true → 0 < length key
 unfolding is_key

@@ -10,15 +10,14 @@ use Rattle.std.proofs.lemmas.Slice.Eq.{bytes_eq-Decides}
 use Rattle.std.proofs.lemmas.Bool.{agree_below, agree_below_at, cases_lt, lt-ltb, le-ltb, le-leb, lt-leb}
 use Rattle.std.proofs.lemmas.Bool.Decides.{Decides-by_and, Decides-ltb, nat_tests}
 use Rattle.std.proofs.lemmas.Grind.{common_steps}
-use Rattle.percent_encoding.specs.AsciiSet.{contains, should_percent_encode}
 use Rattle.percent_encoding.specs.Percent.{percent_encode, percent_decode, percent_encode_byte, encode_byte}
-use Rattle.percent_encoding.proofs.PercentLemmas.{round_trip}
 use Rattle.ox_types.specs.declared.ended.LineRule.{LineRule}
 use Rattle.ox_types.specs.declared.ended.LineRule.TheVariants as rule
-use Rattle.ox_schedule.specs.declared.escape.TheConstants.{ESCAPED}
 use Rattle.ox_ops.specs.Forms as form
+use Rattle.ox_text.specs.SpellingLaws.{spelling_again}
 use Rattle.ox_schedule.specs.Outcome.{said}
-use Rattle.ox_schedule.specs.Spelling.{is_plain, escape, spelt, is_byte, is_key, is_value, is_name, is_number, value_word}
+use Rattle.ox_text.specs.Words.{is_plain, escape, spelt, value_word}
+use Rattle.ox_schedule.specs.Spelling.{is_byte, is_key, is_value, is_name, is_number}
 use Rattle.ox_schedule.specs.Reading.{number_of, key_of, value_of, value_guess, name_of}
 
 pub both : (a b : Bool) → a && b ≡ true → (a ≡ true) × (b ≡ true)
@@ -82,32 +81,6 @@ number_none w none = said_not decimal is_number rule.Number w (digits_value 10 w
 
 -- ---- escapes
 
-plain_table : agree_below (contains ESCAPED) (λ b. not (is_plain b)) 128 ≡ true
-plain_table = refl
-
--- the set that the code uses leaves the plain bytes
-set_is : (b : ℕ) → should_percent_encode ESCAPED b ≡ not (is_plain b)
-unfolding should_percent_encode
-set_is b =
-    elim (cases_lt b 128) [
-      | inl low ↦ rw (lt-ltb b 128 low) (agree_below_at (contains ESCAPED) (λ c. not (is_plain c)) 128 b plain_table low)
-      | inr high ↦ let rest : is_plain b ≡ false = grind (arith, nat_tests) in rw (le-ltb b 128 high, rest) refl
-    ]
-
-escape_is : (b : ℕ) → encode_byte ESCAPED b ≡ escape b
-escape_is b = rw (set_is b) (by_test (is_plain b) (percent_encode_byte b) (b ∷ []))
-  where
-    by_test : (x : Bool) (a c : List ℕ) → cond (not x) a c ≡ cond x c a
-    by_test true a c = refl
-    by_test false a c = refl
-
-pub spelt_is : (bytes : List ℕ) → percent_encode ESCAPED bytes ≡ spelt bytes
-unfolding percent_encode spelt
-spelt_is [] = refl
-spelt_is (b ∷ bytes) =
-    let others : flat_map (encode_byte ESCAPED) bytes ≡ flat_map escape bytes = spelt_is bytes in
-    rw (escape_is b, others) refl
-
 pub are_bytes : (bytes : List ℕ) → All (λ b. b < 256) bytes → list_all is_byte bytes ≡ true
 are_bytes bytes h = (Decides-by_and (λ b. ltb b 256) (λ b. b < 256) (list_all is_byte) (λ b. Decides-ltb b 256) refl (λ _ _. refl) bytes).1 h
 
@@ -115,7 +88,7 @@ bytes_are : (bytes : List ℕ) → list_all is_byte bytes ≡ true → All (λ b
 bytes_are bytes h = (Decides-by_and (λ b. ltb b 256) (λ b. b < 256) (list_all is_byte) (λ b. Decides-ltb b 256) refl (λ _ _. refl) bytes).0 h
 
 pub decoded_again : (bytes : List ℕ) → list_all is_byte bytes ≡ true → percent_decode (spelt bytes) ≡ bytes
-decoded_again bytes h = rw (← spelt_is bytes) (round_trip ESCAPED bytes refl (bytes_are bytes h))
+decoded_again bytes h = spelling_again bytes (bytes_are bytes h)
 
 -- ---- keys and values
 

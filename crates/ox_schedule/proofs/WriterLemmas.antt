@@ -4,11 +4,12 @@ use Rattle.std.specs.List.{flat_map, join_with_byte}
 use Rattle.std.proofs.lemmas.List.{append-nil}
 use Rattle.std.proofs.lemmas.Grind.{flat_map-append}
 use Rattle.ox_ops.specs.declared.write.WriteBatch.{WriteBatch}
-use Rattle.ox_schedule.specs.declared.schedule.Turn.TheVariants.{Client, Deliver, Tick}
-use Rattle.ox_schedule.specs.declared.schedule.Event.{Event}
-use Rattle.ox_schedule.specs.declared.schedule.Event.TheVariants as event
+use Rattle.ox_wire.specs.declared.event.Turn.TheVariants.{Client, Deliver, Tick}
+use Rattle.ox_schedule.specs.Events.{Event}
+use Rattle.ox_wire.specs.declared.event.Event.TheVariants as event
 use Rattle.ox_schedule.specs.Spelling.{numbers_text, deltas_words, put_op, delete_op, range_op, joined, batch_ops, request_words, turn_words, image_word, event_words, event_line}
-use Rattle.ox_schedule.specs.Line.{behind_space, behind_comma, spaced, has_some, plus_words, ops_behind}
+use Rattle.ox_text.specs.Words.{behind_space, spaced}
+use Rattle.ox_schedule.specs.Line.{behind_comma, has_some, plus_words, ops_behind}
 
 pub join_spaced : (w : List ℕ) (ws : List (List ℕ)) → join_with_byte 32 (w ∷ ws) ≡ w ++ spaced ws
 join_spaced w [] = sym (append-nil w)

@@ -4,10 +4,9 @@ use Rattle.std.specs.Prelude.{ℕ, Bool, true, ◌&&◌, ◌==◌}
 use Rattle.ox_ops.specs.Forms.{command, query}
 use Rattle.ox_schedule.specs.declared.schedule.Request.{Request}
 use Rattle.ox_schedule.specs.declared.schedule.Request.TheVariants.{Write, Read}
-use Rattle.ox_schedule.specs.declared.schedule.Turn.{Turn}
-use Rattle.ox_schedule.specs.declared.schedule.Turn.TheVariants.{Client, Deliver, Tick}
-use Rattle.ox_schedule.specs.declared.schedule.Event.{Event}
-use Rattle.ox_schedule.specs.declared.schedule.Event.TheVariants as event
+use Rattle.ox_schedule.specs.Events.{Turn, Event}
+use Rattle.ox_wire.specs.declared.event.Turn.TheVariants.{Client, Deliver, Tick}
+use Rattle.ox_wire.specs.declared.event.Event.TheVariants as event
 use Rattle.ox_schedule.specs.declared.schedule.First.{First}
 use Rattle.ox_schedule.specs.declared.schedule.First.TheVariants.{Solo}
 use Rattle.ox_schedule.specs.Spelling.{is_call, is_term}

@@ -3,14 +3,6 @@ use Rattle.std.specs.Prelude.{ℕ, Bool, true, false, List, [], ◌∷◌, ◌++
 use Rattle.std.specs.List.{flat_map}
 use Rattle.ox_schedule.specs.Spelling.{joined}
 
--- a word behind a space
-abbrev pub behind_space : List ℕ → List ℕ
-behind_space w = 32 ∷ w
-
--- words, each behind a space
-abbrev pub spaced : List (List ℕ) → List ℕ
-spaced ws = flat_map behind_space ws
-
 -- are there items?
 abbrev pub has_some : {A : Type 0} → List A → Bool
 has_some [] = false

@@ -25,15 +25,15 @@ use Rattle.ox_ops.specs.declared.query.ShardQuery.TheVariants as query
 use Rattle.ox_schedule.specs.declared.schedule.Grouping.TheVariants as grouping
 use Rattle.ox_schedule.specs.declared.schedule.Request.{Request}
 use Rattle.ox_schedule.specs.declared.schedule.Request.TheVariants.{Write, Read}
-use Rattle.ox_schedule.specs.declared.schedule.Image.{Image}
-use Rattle.ox_schedule.specs.declared.schedule.Image.TheVariants as image
-use Rattle.ox_schedule.specs.declared.schedule.Turn.{Turn}
-use Rattle.ox_schedule.specs.declared.schedule.Turn.TheVariants.{Client, Deliver, Tick}
-use Rattle.ox_schedule.specs.declared.schedule.Event.{Event}
-use Rattle.ox_schedule.specs.declared.schedule.Event.TheVariants as event
+use Rattle.ox_wire.specs.declared.event.Image.{Image}
+use Rattle.ox_wire.specs.declared.event.Image.TheVariants as image
+use Rattle.ox_schedule.specs.Events.{Turn, Event}
+use Rattle.ox_wire.specs.declared.event.Turn.TheVariants.{Client, Deliver, Tick}
+use Rattle.ox_wire.specs.declared.event.Event.TheVariants as event
 use Rattle.ox_schedule.specs.declared.schedule.Places.{Places}
 use Rattle.ox_schedule.specs.Outcome.{◌>>=◌, said}
-use Rattle.ox_schedule.specs.Spelling.{spelt, value_word, is_key, is_value, is_name, is_number, is_empty, is_node, is_shard, is_call, is_term, is_word, words_of}
+use Rattle.ox_text.specs.Words.{spelt, value_word}
+use Rattle.ox_schedule.specs.Spelling.{is_key, is_value, is_name, is_number, is_empty, is_node, is_shard, is_call, is_term, is_word, words_of}
 use Rattle.ox_schedule.specs.Shape.{ops_in, event_fits}
 
 -- ---- one word

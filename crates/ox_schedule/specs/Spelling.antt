@@ -1,8 +1,8 @@
 -- The grammar of a line: the words of each construct, and which constructs are lawful. A line is the words of its event.
 use Rattle.std.specs.Prelude.{◌≡◌, ℕ, ◌^◌, Bool, true, false, not, ◌&&◌, ◌||◌, ◌==◌, nat_le, nat_lt, List, [], ◌∷◌, ◌++◌, length, map, Option, Some, None, codes, decimal, if◌then◌else◌}
 use Rattle.std.specs.List.{list_all, flat_map, slice_split, join_with_byte}
-use Rattle.percent_encoding.specs.Percent.{percent_encode_byte}
 use Rattle.ox_bytes.specs.Fields as field
+use Rattle.ox_text.specs.Words.{spelt, value_word, lo_word, hi_word, range_words}
 use Rattle.ox_ops.specs.Forms as form
 use Rattle.ox_order.specs.declared.range.Lo.{Lo}
 use Rattle.ox_order.specs.declared.range.Lo.TheVariants.{Start, At, Past}
@@ -25,27 +25,14 @@ use Rattle.ox_schedule.specs.declared.schedule.Grouping.{Grouping}
 use Rattle.ox_schedule.specs.declared.schedule.Grouping.TheVariants as grouping
 use Rattle.ox_schedule.specs.declared.schedule.Request.{Request}
 use Rattle.ox_schedule.specs.declared.schedule.Request.TheVariants.{Write, Read}
-use Rattle.ox_schedule.specs.declared.schedule.Image.{Image}
-use Rattle.ox_schedule.specs.declared.schedule.Image.TheVariants as image
-use Rattle.ox_schedule.specs.declared.schedule.Turn.{Turn}
-use Rattle.ox_schedule.specs.declared.schedule.Turn.TheVariants.{Client, Deliver, Tick}
-use Rattle.ox_schedule.specs.declared.schedule.Event.{Event}
-use Rattle.ox_schedule.specs.declared.schedule.Event.TheVariants as event
+use Rattle.ox_wire.specs.declared.event.Image.{Image}
+use Rattle.ox_wire.specs.declared.event.Image.TheVariants as image
+use Rattle.ox_schedule.specs.Events.{Turn, Event}
+use Rattle.ox_wire.specs.declared.event.Turn.TheVariants.{Client, Deliver, Tick}
+use Rattle.ox_wire.specs.declared.event.Event.TheVariants as event
 use Rattle.ox_schedule.specs.declared.schedule.Places.{Places}
 
 -- ---- bytes and numbers
-
--- letters, digits, and - _ . /
-abbrev pub is_plain : ℕ → Bool
-is_plain b = (nat_le 97 b && nat_le b 122) || (nat_le 65 b && nat_le b 90) || (nat_le 48 b && nat_le b 57) || b == 45 || b == 95 || b == 46 || b == 47
-
--- a plain byte as it is, any other as % and two capital hexadecimal digits
-abbrev pub escape : ℕ → List ℕ
-escape b = if is_plain b then b ∷ [] else percent_encode_byte b
-
--- the one spelling of bytes
-unfoldable pub spelt : List ℕ → List ℕ
-spelt bytes = flat_map escape bytes
 
 -- a number that a byte can be
 abbrev pub is_byte : ℕ → Bool
@@ -66,10 +53,6 @@ is_name name = list_all is_byte name && form.is_name name
 -- a number of a schedule is any u64
 abbrev pub is_number : ℕ → Bool
 is_number n = nat_lt n (2 ^ 64)
-
--- a value, or * for the empty one
-abbrev pub value_word : List ℕ → List ℕ
-value_word value = if length value == 0 then codes "*" else spelt value
 
 -- no items
 abbrev pub is_empty : {A : Type 0} → List A → Bool
@@ -128,31 +111,16 @@ is_by (Some name) = is_name name
 
 -- ---- ranges
 
--- the low end of a range: from the beginning, from a key, or past it
-abbrev pub lo_word : Lo → List ℕ
-lo_word Start = codes "*"
-lo_word (At key) = spelt key
-lo_word (Past key) = codes ">" ++ spelt key
-
 -- a low end that can be spelt
 abbrev pub is_lo : Lo → Bool
 is_lo Start = true
 is_lo (At key) = is_key key
 is_lo (Past key) = is_key key
 
--- the high end of a range: to the end, or before a key
-abbrev pub hi_word : Hi → List ℕ
-hi_word End = codes "*"
-hi_word (Before key) = spelt key
-
 -- a high end that can be spelt
 abbrev pub is_hi : Hi → Bool
 is_hi End = true
 is_hi (Before key) = is_key key
-
--- both ends of a range
-abbrev pub range_words : KeyRange → List (List ℕ)
-range_words r = lo_word r.lo ∷ hi_word r.hi ∷ []
 
 -- a range that can be spelt
 abbrev pub is_range : KeyRange → Bool

@@ -1,37 +1,20 @@
-// Keys and values, percent-encoded.
+// Keys and values, as their words say them.
 ghost use Rattle.std.specs.Prelude.{◌≡◌, true, IfOk};
 ghost use Rattle.std.specs.Str.{bytes_eq};
-ghost use Rattle.std.specs.String.{string_bytes};
 ghost use Rattle.std.specs.List.{list_all};
 ghost use Rattle.percent_encoding.specs.Percent.{percent_decode};
 ghost use Rattle.ox_ops.specs.Forms as form;
 ghost use Rattle.ox_schedule.specs.Outcome.{Gives};
-ghost use Rattle.ox_schedule.specs.Spelling.{spelt, value_word, is_byte};
+ghost use Rattle.ox_text.specs.Words.{spelt, value_word};
+ghost use Rattle.ox_schedule.specs.Spelling.{is_byte};
 ghost use Rattle.ox_schedule.specs.Reading.{key_of, value_of, value_guess, name_of};
 
 use crate::fault::LineFault;
 use crate::word::is;
+use ox_text::spelling;
 use ox_types::{Key, LineRule, NoMemory, Octets, Value};
-use percent_encoding::{AsciiSet, NON_ALPHANUMERIC, ascii_set, percent_decode, percent_encode};
+use percent_encoding::percent_decode;
 use std::alloc::Global;
-
-/// All that is spelt by an escape.
-const ESCAPED: AsciiSet = ascii_set!(
-    NON_ALPHANUMERIC
-        .remove(b'-')
-        .remove(b'_')
-        .remove(b'.')
-        .remove(b'/')
-);
-
-/// The one spelling of the bytes.
-pub fn spelling(alloc: Global, bytes: &[u8]) -> Result<String, NoMemory>
-    ensures { IfOk result (λ text. string_bytes text ≡ spelt bytes.now) }
-{
-    let mut text = String::new(alloc);
-    percent_encode(bytes, ESCAPED).append_to(&mut text)?;
-    Ok(text)
-}
 
 fn decoded(alloc: Global, word: &[u8]) -> Result<Vec<u8>, NoMemory>
     ensures text { IfOk result (λ bytes. bytes.items ≡ percent_decode word.now) }

@@ -7,9 +7,10 @@ use crate::fault::LineFault;
 use crate::field::read_single;
 use crate::line::read_request;
 use crate::options::no_option;
-use crate::schedule::{Event, Image, Places, Turn};
+use crate::schedule::{Places, Request};
 use crate::word::{is, next_word, read_number};
 use ox_types::LineRule;
+use ox_wire::{Event, Image, Turn};
 use std::alloc::Global;
 
 #[tactic(auto, unfolding(crate::specs::Reading::node_at))]
@@ -43,7 +44,7 @@ fn shard_field<'a, 'b>(
 }
 
 #[tactic(auto, unfolding(crate::specs::Reading::client_of))]
-fn read_client(alloc: Global, places: Places, words: &[&[u8]]) -> Result<Turn, LineFault>
+fn read_client(alloc: Global, places: Places, words: &[&[u8]]) -> Result<Turn<Request>, LineFault>
     ensures { Gives (λ x. x) result (client_of places (map (λ w. w.now) words.now)) }
 {
     let (node, rest) = node_field(places, words)?;
@@ -57,7 +58,7 @@ fn read_client(alloc: Global, places: Places, words: &[&[u8]]) -> Result<Turn, L
 }
 
 #[tactic(auto, unfolding(crate::specs::Reading::tick_of))]
-fn read_tick(places: Places, words: &[&[u8]]) -> Result<Turn, LineFault>
+fn read_tick(places: Places, words: &[&[u8]]) -> Result<Turn<Request>, LineFault>
     ensures { Gives (λ x. x) result (tick_of places (map (λ w. w.now) words.now)) }
 {
     let (node, rest) = node_field(places, words)?;
@@ -67,7 +68,7 @@ fn read_tick(places: Places, words: &[&[u8]]) -> Result<Turn, LineFault>
 }
 
 #[tactic(auto, unfolding(crate::specs::Reading::turn_of))]
-fn read_turn(alloc: Global, places: Places, words: &[&[u8]]) -> Result<Turn, LineFault>
+fn read_turn(alloc: Global, places: Places, words: &[&[u8]]) -> Result<Turn<Request>, LineFault>
     ensures { Gives (λ x. x) result (turn_of places (map (λ w. w.now) words.now)) }
 {
     let (verb, rest) = next_word(words)?;
@@ -112,7 +113,7 @@ fn read_image(word: &[u8]) -> Result<Image, LineFault>
 }
 
 #[tactic(auto, unfolding(crate::specs::Reading::cut_of))]
-fn read_cut(alloc: Global, places: Places, words: &[&[u8]]) -> Result<Event, LineFault>
+fn read_cut(alloc: Global, places: Places, words: &[&[u8]]) -> Result<Event<Request>, LineFault>
     ensures { Gives (λ x. x) result (cut_of places (map (λ w. w.now) words.now)) }
 {
     let (call, rest) = call_field(words)?;
@@ -155,7 +156,11 @@ fn read_seat(places: Places, words: &[&[u8]]) -> Result<(u64, u64, u64), LineFau
 
 /// The event that words say, whose shape was tested before.
 #[tactic(auto, unfolding(crate::specs::Reading::event_of))]
-pub fn read_event(alloc: Global, places: Places, words: &[&[u8]]) -> Result<Event, LineFault>
+pub fn read_event(
+    alloc: Global,
+    places: Places,
+    words: &[&[u8]],
+) -> Result<Event<Request>, LineFault>
     ensures { Gives (λ x. x) result (event_of places (map (λ w. w.now) words.now)) }
 {
     let (verb, rest) = next_word(words)?;

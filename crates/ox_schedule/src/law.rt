@@ -3,7 +3,7 @@ ghost use Rattle.std.specs.Prelude.{◌≡◌, ◌≢◌, ◌↔◌, ◌⊎◌, 
 ghost use Rattle.std.specs.List.{list_all};
 ghost use Rattle.ox_types.specs.declared.ended.LineRule.{LineRule};
 ghost use Rattle.ox_types.specs.declared.ended.LineRule.TheVariants as rule;
-ghost use Rattle.ox_schedule.specs.declared.schedule.Event.{Event};
+ghost use Rattle.ox_schedule.specs.Events.{Event};
 ghost use Rattle.ox_schedule.specs.declared.schedule.Places.{Places};
 ghost use Rattle.ox_schedule.specs.declared.schedule.Schedule.{Schedule};
 ghost use Rattle.ox_schedule.specs.Shape.{event_fits};

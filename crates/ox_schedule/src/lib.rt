@@ -19,9 +19,7 @@ pub use law::{
     law_encodable, law_first_bad_line, law_line, law_one_schedule, law_places, law_rules,
     law_schedule,
 };
+pub use ox_wire::{Event, Image, Turn};
 pub use reading::read_schedule;
-pub use schedule::{Event, First, Grouping, Image, Places, Request, Schedule, Turn};
-pub use writer::{add_bytes, add_event, add_key, add_range, add_value};
-
-#[cfg(test)]
-mod tests;
+pub use schedule::{First, Grouping, Places, Request, Schedule};
+pub use writer::add_event;

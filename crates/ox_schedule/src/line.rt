@@ -14,11 +14,12 @@ use crate::fault::LineFault;
 use crate::field::{
     read_delete, read_ends, read_get, read_notices, read_put, read_range, read_single,
 };
-use crate::schedule::{Event, Grouping, Places, Request};
+use crate::schedule::{Grouping, Places, Request};
 use crate::shape::{first_op, is_event};
 use crate::word::{is, next_word};
 use ox_ops::{ShardCommand, ShardQuery, WriteBatch};
 use ox_types::{LineRule, List, NoMemory};
+use ox_wire::Event;
 use std::alloc::Global;
 
 /// A batch of no operations, to which they are added.
@@ -172,7 +173,7 @@ pub fn split_words(alloc: Global, line: &[u8]) -> Result<Vec<&[u8]>, NoMemory>
 
 /// The event that a line spells, or the first rule that it breaks.
 #[tactic(auto, unfolding(crate::specs::Reading::line_at))]
-pub fn read_line(alloc: Global, places: Places, line: &[u8]) -> Result<Event, LineFault>
+pub fn read_line(alloc: Global, places: Places, line: &[u8]) -> Result<Event<Request>, LineFault>
     ensures { Gives (λ x. x) result (line_at places line.now) }
 {
     if line.is_empty() {

@@ -7,9 +7,10 @@ ghost use Rattle.ox_schedule.specs.Schedule.{Answers, SpellsSchedule, IsFaultOf,
 
 use crate::fault::{LineFault, ScheduleFault};
 use crate::line::{are_words, read_line, split_words};
-use crate::schedule::{Event, First, Places, Schedule};
+use crate::schedule::{First, Places, Request, Schedule};
 use crate::word::{first_word, is, read_number};
 use ox_types::{LineRule, List};
+use ox_wire::Event;
 use std::alloc::Global;
 
 fn line_feed_place(text: &[u8]) -> Option<usize>
@@ -111,7 +112,12 @@ fn first_in(alloc: Global, line: &[u8]) -> Result<First, ScheduleFault>
     }
 }
 
-fn event_in(alloc: Global, places: Places, number: u64, line: &[u8]) -> Result<Event, ScheduleFault>
+fn event_in(
+    alloc: Global,
+    places: Places,
+    number: u64,
+    line: &[u8],
+) -> Result<Event<Request>, ScheduleFault>
     ensures { Answers result (at_line number (line_at places line.now)) }
 {
     match read_line(alloc, places, line) {
@@ -121,7 +127,11 @@ fn event_in(alloc: Global, places: Places, number: u64, line: &[u8]) -> Result<E
     }
 }
 
-fn read_events(alloc: Global, places: Places, text: &[u8]) -> Result<List<Event>, ScheduleFault>
+fn read_events(
+    alloc: Global,
+    places: Places,
+    text: &[u8],
+) -> Result<List<Event<Request>>, ScheduleFault>
     ensures exact { Answers result (events_at places 2 (lines_of text.now)) }
     ensures short { IfOk result (λ es. length es ≤ length text.now) }
 {

@@ -1,6 +1,7 @@
 // A schedule as data.
 use ox_ops::{ShardCommand, ShardQuery};
 use ox_types::List;
+use ox_wire::Event;
 
 /// How the operations of a write are spelt.
 #[derive(Clone, Copy, Debug, PartialEq, Eq)]
@@ -21,55 +22,6 @@ pub enum Request {
     Read(ShardQuery),
 }
 
-/// What a cut leaves of the call of the disks that it is in.
-#[derive(Clone, Copy, Debug, PartialEq, Eq)]
-pub enum Image {
-    /// `none`: nothing of it.
-    Nothing,
-    /// `kept`: all of it.
-    Kept,
-    /// `torn`: a part of it.
-    Torn,
-}
-
-/// What an actor takes in one step.
-#[derive(Debug, Drop)]
-pub enum Turn {
-    Client {
-        node: u64,
-        shard: u64,
-        request: Request,
-    },
-    /// A message arrives. Messages are numbered from 1 in the order of sending; any number may stand here.
-    Deliver {
-        message: u64,
-    },
-    /// A node's clock comes to this time (ms) at one shard. Any number may stand here.
-    Tick {
-        node: u64,
-        shard: u64,
-        ms: u64,
-    },
-}
-
-/// What happens next.
-#[derive(Debug, Drop)]
-pub enum Event {
-    Takes(Turn),
-    /// The actor goes down inside this device call of the step, counted from 1.
-    Cut { call: u64, image: Image, turn: Turn },
-    /// The node goes down.
-    Stop { node: u64 },
-    /// The node recovers its replicas.
-    Start { node: u64 },
-    /// The node goes down for good.
-    Lose { node: u64 },
-    /// The replica is told to leave the terms below this one, 1 to 2^53.
-    Fence { node: u64, shard: u64, term: u64 },
-    /// The replica is told to lead in this term, 1 to 2^53.
-    Lead { node: u64, shard: u64, term: u64 },
-}
-
 /// How many there are. Nodes are numbered from 1, shards from 0.
 #[derive(Clone, Copy, Debug, PartialEq, Eq)]
 pub struct Places {
@@ -88,5 +40,5 @@ pub enum First {
 #[derive(Debug, Drop)]
 pub struct Schedule {
     pub first: First,
-    pub events: List<Event>,
+    pub events: List<Event<Request>>,
 }

@@ -1,58 +1,18 @@
-// The line of an event, word by word, each word behind a space; and the spelling of keys and values.
+// The line of an event, word by word, each word behind a space.
 ghost use Rattle.std.specs.Prelude.{◌≡◌, ◌||◌, ◌++◌, ◌∷◌, [], OnOk, OnErr, MatchOption, map, drop, decimal, codes};
 ghost use Rattle.std.specs.List.{flat_map};
-ghost use Rattle.ox_schedule.specs.Spelling.{spelt, value_word, expect_words, session_words, deltas_words, entry_word, by_words, put_options, lo_word, hi_word, range_words, put_op, delete_op, range_op, joined, batch_ops, grouping_words, command_words, compare_word, query_words, request_words, turn_words, image_word, event_words, event_line};
-ghost use Rattle.ox_schedule.specs.Line.{spaced, behind_comma, has_some, plus_words, ops_behind};
+ghost use Rattle.ox_text.specs.Words.{spelt, spaced};
+ghost use Rattle.ox_schedule.specs.Spelling.{expect_words, session_words, deltas_words, entry_word, by_words, put_options, put_op, delete_op, range_op, joined, batch_ops, grouping_words, command_words, compare_word, query_words, request_words, turn_words, image_word, event_words, event_line};
+ghost use Rattle.ox_schedule.specs.Line.{behind_comma, has_some, plus_words, ops_behind};
 
-use crate::escape::spelling;
-use crate::schedule::{Event, Grouping, Image, Request, Turn};
-use itoa::Buffer;
+use crate::schedule::{Grouping, Request};
 use ox_ops::{
-    Compare, Delete, Expect, Hi, IndexEntry, KeyRange, Lo, Put, ShardCommand, ShardQuery,
-    WriteBatch,
+    Compare, Delete, Expect, IndexEntry, KeyRange, Put, ShardCommand, ShardQuery, WriteBatch,
 };
-use ox_types::{Key, NoMemory, Octets, Value};
+use ox_text::{add_bytes, add_field, add_key, add_number, add_range, add_value};
+use ox_types::{Key, NoMemory, Octets};
+use ox_wire::{Event, Image, Turn};
 use std::alloc::Global;
-
-fn add_number(text: &mut Octets, number: u64) -> Result<(), NoMemory>
-    ensures { OnOk result (text.new ≡ text.old ++ spaced (decimal number ∷ [])) }
-{
-    text.extend(b" ")?;
-    text.extend(Buffer::new().format(number).as_bytes())
-}
-
-/// Adds the spelling of bytes, as of the name of an index. It costs their number, and takes memory for the spelling too.
-/// Where memory runs out, nothing is added.
-pub fn add_bytes(alloc: Global, text: &mut Octets, bytes: &[u8]) -> Result<(), NoMemory>
-    ensures ok { OnOk result (text.new ≡ text.old ++ spelt bytes.now) }
-    ensures err { OnErr result (text.new ≡ text.old) }
-{
-    let word = spelling(alloc, bytes)?;
-    text.extend(word.as_bytes())
-}
-
-/// Adds the spelling of a key, as it stands in a line. It costs its bytes, and takes memory for its text too.
-/// Where memory runs out, nothing is added.
-pub fn add_key(alloc: Global, text: &mut Octets, key: &Key) -> Result<(), NoMemory>
-    ensures ok { OnOk result (text.new ≡ text.old ++ spelt key.now) }
-    ensures err { OnErr result (text.new ≡ text.old) }
-{
-    add_bytes(alloc, text, key.bytes())
-}
-
-/// Adds the spelling of a value, `*` for the empty one, at the same cost as that of a key. Where memory runs out,
-/// nothing is added.
-pub fn add_value(alloc: Global, text: &mut Octets, value: &Value) -> Result<(), NoMemory>
-    ensures ok { OnOk result (text.new ≡ text.old ++ value_word value.now) }
-    ensures err { OnErr result (text.new ≡ text.old) }
-{
-    let bytes = value.bytes();
-    if bytes.is_empty() {
-        return text.extend(b"*");
-    }
-    let word = spelling(alloc, bytes)?;
-    text.extend(word.as_bytes())
-}
 
 fn add_expect(text: &mut Octets, expect: Expect) -> Result<(), NoMemory>
     ensures { OnOk result (text.new ≡ text.old ++ spaced (expect_words expect)) }
@@ -62,7 +22,7 @@ fn add_expect(text: &mut Octets, expect: Expect) -> Result<(), NoMemory>
         Expect::Absent => text.extend(b" expect=absent"),
         Expect::Exactly(version) => {
             text.extend(b" expect=")?;
-            text.extend(Buffer::new().format(version).as_bytes())
+            add_number(text, version)
         }
     }
 }
@@ -74,7 +34,7 @@ fn add_session(text: &mut Octets, session: Option<u64>) -> Result<(), NoMemory>
         None => Ok(()),
         Some(id) => {
             text.extend(b" session=")?;
-            text.extend(Buffer::new().format(id).as_bytes())
+            add_number(text, id)
         }
     }
 }
@@ -85,7 +45,7 @@ fn add_further(text: &mut Octets, numbers: &[u64]) -> Result<(), NoMemory>
 {
     for number in numbers {
         text.extend(b",")?;
-        text.extend(Buffer::new().format(*number).as_bytes())?;
+        add_number(text, *number)?;
     }
     Ok(())
 }
@@ -107,7 +67,7 @@ fn add_deltas(text: &mut Octets, deltas: &[u64]) -> Result<(), NoMemory>
         return Ok(());
     };
     text.extend(b" seq=")?;
-    text.extend(Buffer::new().format(first).as_bytes())?;
+    add_number(text, first)?;
     add_further(text, rest)
 }
 
@@ -149,43 +109,6 @@ fn add_by(alloc: Global, text: &mut Octets, by: &Option<Octets>) -> Result<(), N
             add_bytes(alloc, text, name.as_slice())
         }
     }
-}
-
-fn add_lo(alloc: Global, text: &mut Octets, lo: &Lo) -> Result<(), NoMemory>
-    ensures { OnOk result (text.new ≡ text.old ++ spaced (lo_word lo.now ∷ [])) }
-{
-    match lo {
-        Lo::Start => text.extend(b" *"),
-        Lo::At(key) => {
-            text.extend(b" ")?;
-            add_key(alloc, text, key)
-        }
-        Lo::Past(key) => {
-            text.extend(b" >")?;
-            add_key(alloc, text, key)
-        }
-    }
-}
-
-fn add_hi(alloc: Global, text: &mut Octets, hi: &Hi) -> Result<(), NoMemory>
-    ensures { OnOk result (text.new ≡ text.old ++ spaced (hi_word hi.now ∷ [])) }
-{
-    match hi {
-        Hi::End => text.extend(b" *"),
-        Hi::Before(key) => {
-            text.extend(b" ")?;
-            add_key(alloc, text, key)
-        }
-    }
-}
-
-/// Adds both ends of a range, each behind a space, at the cost of its keys. Where memory runs out, the text may have a
-/// part of them behind what it had.
-pub fn add_range(alloc: Global, text: &mut Octets, range: &KeyRange) -> Result<(), NoMemory>
-    ensures { OnOk result (text.new ≡ text.old ++ spaced (range_words range.now)) }
-{
-    add_lo(alloc, text, &range.lo)?;
-    add_hi(alloc, text, &range.hi)
 }
 
 fn add_put(alloc: Global, text: &mut Octets, put: &Put) -> Result<(), NoMemory>
@@ -320,15 +243,15 @@ fn add_command(
         }
         ShardCommand::Open { timeout } => {
             text.extend(b" open")?;
-            add_number(text, *timeout)
+            add_field(text, *timeout)
         }
         ShardCommand::Close { session } => {
             text.extend(b" close")?;
-            add_number(text, *session)
+            add_field(text, *session)
         }
         ShardCommand::Expire { session } => {
             text.extend(b" expire")?;
-            add_number(text, *session)
+            add_field(text, *session)
         }
     }
 }
@@ -374,12 +297,12 @@ fn add_query(alloc: Global, text: &mut Octets, query: &ShardQuery) -> Result<(),
         }
         ShardQuery::Notices { after, skip } => {
             text.extend(b" notices")?;
-            add_number(text, *after)?;
-            add_number(text, *skip)
+            add_field(text, *after)?;
+            add_field(text, *skip)
         }
         ShardQuery::KeepAlive { session } => {
             text.extend(b" keep")?;
-            add_number(text, *session)
+            add_field(text, *session)
         }
     }
 }
@@ -396,11 +319,11 @@ fn add_request(alloc: Global, text: &mut Octets, request: &Request) -> Result<()
 fn add_place(text: &mut Octets, node: u64, shard: u64) -> Result<(), NoMemory>
     ensures { OnOk result (text.new ≡ text.old ++ spaced (decimal node ∷ decimal shard ∷ [])) }
 {
-    add_number(text, node)?;
-    add_number(text, shard)
+    add_field(text, node)?;
+    add_field(text, shard)
 }
 
-fn add_turn(alloc: Global, text: &mut Octets, turn: &Turn) -> Result<(), NoMemory>
+fn add_turn(alloc: Global, text: &mut Octets, turn: &Turn<Request>) -> Result<(), NoMemory>
     ensures { OnOk result (text.new ≡ text.old ++ spaced (turn_words turn.now)) }
 {
     match turn {
@@ -415,12 +338,12 @@ fn add_turn(alloc: Global, text: &mut Octets, turn: &Turn) -> Result<(), NoMemor
         }
         Turn::Deliver { message } => {
             text.extend(b" deliver")?;
-            add_number(text, *message)
+            add_field(text, *message)
         }
         Turn::Tick { node, shard, ms } => {
             text.extend(b" tick")?;
             add_place(text, *node, *shard)?;
-            add_number(text, *ms)
+            add_field(text, *ms)
         }
     }
 }
@@ -436,38 +359,38 @@ fn add_image(text: &mut Octets, image: Image) -> Result<(), NoMemory>
 }
 
 /// The words of an event, each behind a space.
-fn add_words(alloc: Global, text: &mut Octets, event: &Event) -> Result<(), NoMemory>
+fn add_words(alloc: Global, text: &mut Octets, event: &Event<Request>) -> Result<(), NoMemory>
     ensures { OnOk result (text.new ≡ text.old ++ spaced (event_words event.now)) }
 {
     match event {
         Event::Takes(turn) => add_turn(alloc, text, turn),
         Event::Cut { call, image, turn } => {
             text.extend(b" cut")?;
-            add_number(text, *call)?;
+            add_field(text, *call)?;
             add_image(text, *image)?;
             add_turn(alloc, text, turn)
         }
         Event::Stop { node } => {
             text.extend(b" stop")?;
-            add_number(text, *node)
+            add_field(text, *node)
         }
         Event::Start { node } => {
             text.extend(b" start")?;
-            add_number(text, *node)
+            add_field(text, *node)
         }
         Event::Lose { node } => {
             text.extend(b" lose")?;
-            add_number(text, *node)
+            add_field(text, *node)
         }
         Event::Fence { node, shard, term } => {
             text.extend(b" fence")?;
             add_place(text, *node, *shard)?;
-            add_number(text, *term)
+            add_field(text, *term)
         }
         Event::Lead { node, shard, term } => {
             text.extend(b" lead")?;
             add_place(text, *node, *shard)?;
-            add_number(text, *term)
+            add_field(text, *term)
         }
     }
 }
@@ -484,7 +407,7 @@ fn after_first(text: &[u8]) -> &[u8]
 
 /// Adds the line of an event, without a line feed: of an event of a schedule, the very line that was read. It costs the
 /// line, which is made in memory of its own first. Where memory runs out, nothing is added.
-pub fn add_event(alloc: Global, text: &mut Octets, event: &Event) -> Result<(), NoMemory>
+pub fn add_event(alloc: Global, text: &mut Octets, event: &Event<Request>) -> Result<(), NoMemory>
     ensures ok { OnOk result (text.new ≡ text.old ++ event_line event.now) }
     ensures err { OnErr result (text.new ≡ text.old) }
 {

@@ -8,6 +8,3 @@ mod sessions;
 pub use laws::{later_sessions_come_last, repeated_edits_change_nothing};
 pub use ox_types::Timer;
 pub use sessions::Sessions;
-
-#[cfg(test)]
-mod tests;

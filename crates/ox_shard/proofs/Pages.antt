@@ -8,8 +8,8 @@ use Rattle.ox_ops.specs.declared.answer.Record.{Record}
 use Rattle.ox_ops.specs.declared.answer.ShardAnswer.TheVariants as answer
 use Rattle.ox_ops.specs.Page.{key_size, record_size}
 use Rattle.ox_ops.specs.Answer.{keys_page, records_page}
-use Rattle.ox_page.specs.Filling.{Filling, Holds, has_room}
-use Rattle.ox_page.specs.FillingLaws.{holds-room, holds-full}
+use Rattle.ox_ops.specs.Filling.{Filling, Holds, has_room}
+use Rattle.ox_ops.specs.FillingLaws.{holds-room, holds-full}
 use Rattle.ox_puts.specs.Records.{keyed, records_in}
 
 abbrev Pair : Type 0

@@ -14,9 +14,11 @@ use Rattle.ox_ops.specs.declared.answer.Record.{Record}
 use Rattle.ox_ops.specs.State.{ShardState, has_key, record_of, without_key, with_record}
 use Rattle.ox_ops.specs.Operation.{Effect, put_record, put_on, delete_on, range_on}
 use Rattle.ox_ops.specs.Apply.{and_then, some_notice}
-use Rattle.ox_session.specs.Members.{members_in}
+use Rattle.ox_session.specs.Members.{sessions_of, members_in}
 use Rattle.ox_puts.specs.declared.change.Change.{Change}
-use Rattle.ox_puts.specs.Records.{RecordsState, IsOf, keyed, replaced_by, deleted_by}
+use Rattle.ox_puts.specs.Records.{RecordsState, IsOf, IsLive, keyed, replaced_by, deleted_by}
+use Rattle.ox_puts.specs.Given.{put_given}
+use Rattle.ox_puts.specs.GivenLaws.{put_on-given}
 use Rattle.ox_puts.specs.Changes.{effect}
 use Rattle.ox_index.specs.declared.added.Added.{Added}
 use Rattle.ox_index.specs.Pairs.{has_added}
@@ -32,8 +34,12 @@ use Rattle.ox_shard.proofs.Puts.{StoresAs, Stores, put-stores, RemovesAs, Remove
 use Rattle.ox_shard.proofs.Entering.{joined, entered, All-with}
 
 -- the shard has the records of its parts
-pub own_records : (p : Parts) → IsTied p → IsOf (state_of p) p.records
-own_records p tied = record { records = refl; next_version = refl; other = tied.charged }
+pub own_records : (p : Parts) → IsOf (state_of p) p.records
+own_records p = record { records = refl; next_version = refl }
+
+-- its put is the one with what its records were charged
+pub own_put : (p : Parts) → IsTied p → (live : Bool) (x : Put) → IsLive live x.session (sessions_of p.lists.sessions) → put_on (state_of p) x ≡ put_given (state_of p) p.records.other live x
+own_put p tied live x is = put_on-given (state_of p) p.records.other live x tied.charged is
 
 -- a change of the records is what the operation makes of the shard
 pub made-is : (before after : Parts) (old new : Done) (change : Change) (e : Effect) → IsBeside before after → e ≡ effect (state_of before) after.records change

@@ -14,6 +14,3 @@ pub use laws::{
 };
 pub use table::Table;
 pub use table_range::TableRange;
-
-#[cfg(test)]
-mod tests;

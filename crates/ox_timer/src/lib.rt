@@ -13,6 +13,3 @@ pub use law::{
 pub use ox_types::Timer;
 pub use running::Running;
 pub use timers::Timers;
-
-#[cfg(test)]
-mod tests;

@@ -5,5 +5,7 @@ pub mod Folding
 pub mod Batches
 pub mod Crashes
 pub mod TermRuns
+pub mod Turns
+pub mod Places
 pub mod Recovering
 pub mod Restarts

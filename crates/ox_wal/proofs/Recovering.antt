@@ -1,10 +1,11 @@
 -- Payloads that are read one after another.
-use Rattle.std.proofs.Common.{◌≡◌, inl, inr, ⊎_elim, ℕ, Bool, true, List, [], ◌∷◌, ◌++◌, drop, Some, None, Result, Err, refl, sym, ap, ◌∙◌, subst, arith, append_assoc}
-use Rattle.std.proofs.lemmas.List.{append-nil}
+use Rattle.std.proofs.Common.{◌≡◌, ◌⊎◌, inl, inr, ⊎_elim, ℕ, ◌+◌, ◌-◌, ◌<◌, ◌^◌, Bool, true, List, [], ◌∷◌, ◌++◌, All, length, drop, Some, None, Result, Err, refl, sym, ap, ◌∙◌, subst, arith, append_assoc, length-append, length-drop}
+use Rattle.std.proofs.lemmas.List.{append-nil, get_or-append-add}
 use Rattle.ox_types.specs.declared.durable.Action.{Action}
 use Rattle.ox_types.specs.Durable.{DurableState, blank, fold_on}
 use Rattle.ox_outside.specs.Disk.{Shown, Quiet}
-use Rattle.ox_journal.specs.Next.{next_of}
+use Rattle.ox_journal.specs.Half.{be32, record_text, records_text, front}
+use Rattle.ox_journal.specs.Next.{next_of, StandsAt}
 use Rattle.ox_journal.specs.Opening.{first_of}
 use Rattle.ox_journal.specs.Pair.{IsHalf, IsOpen, IsReading}
 use Rattle.ox_journal.specs.declared.reading.Next.TheVariants.{Cut}
@@ -32,6 +33,7 @@ pub record SoFar (start live spare : Shown) (round end : ℕ) (d : DurableState)
   pub done : List (List ℕ)
   pub reads : Reads live spare round end d first done
   pub quiet : Quiet start live
+  pub gate : (done ≡ []) ⊎ (0 < length reads.reading.rest)
   pub held : (payloads : List (List ℕ)) → IsHalf round payloads start.seen → (more : List (List ℕ)) × (payloads ≡ done ++ more)
 
 pub begins : (live spare : Shown) (round end : ℕ) (d : DurableState) → IsReading live spare round end [] → d ≡ blank → SoFar live live spare round end d true
@@ -39,8 +41,45 @@ begins live spare round end d reading is = record {
   done = [];
   reads = record { reading = reading; actions = []; are = refl; folds = ap (λ (s : DurableState). Some s) (sym is); first_is = refl };
   quiet = quiet_none live;
+  gate = inl refl;
   held = λ payloads half. (payloads, refl);
 }
+
+-- what the last has
+last_has : (P : List ℕ → Type 0) (xs : List (List ℕ)) (x : List ℕ) → All P (xs ++ x ∷ []) → P x
+last_has P xs x all = subst P (get_or-append-add xs (x ∷ []) 0 []) (all (length xs + 0) [] (omega (arith, length-append xs (x ∷ []))))
+
+length-record : (payload : List ℕ) → length (record_text payload) ≡ length payload + 4
+length-record payload = let four : length (be32 (length payload)) ≡ 4 = refl in let both : length (record_text payload) ≡ length (be32 (length payload)) + length payload = length-append (be32 (length payload)) payload in omega arith
+
+length-records : (xs : List (List ℕ)) (x : List ℕ) → length (records_text (xs ++ x ∷ [])) ≡ length (records_text xs) + (length x + 5)
+length-records [] x = let one = length-record x in let both : length ((1 ∷ record_text x) ++ []) ≡ length (1 ∷ record_text x) + 0 = length-append (1 ∷ record_text x) [] in omega arith
+length-records (y ∷ xs) x =
+    let rest = length-records xs x in
+    let long : length ((1 ∷ record_text y) ++ records_text (xs ++ x ∷ [])) ≡ length (1 ∷ record_text y) + length (records_text (xs ++ x ∷ [])) = length-append (1 ∷ record_text y) (records_text (xs ++ x ∷ [])) in
+    let short : length ((1 ∷ record_text y) ++ records_text xs) ≡ length (1 ∷ record_text y) + length (records_text xs) = length-append (1 ∷ record_text y) (records_text xs) in
+    omega arith
+
+length-front : (round : ℕ) (xs : List (List ℕ)) → length (front round xs) ≡ length (records_text xs) + 10
+unfolding front
+length-front round xs = omega arith
+
+-- behind a record that stands with its gate there is more
+gate_behind : (file new : List ℕ) (round end : ℕ) (done : List (List ℕ)) (payload : List ℕ) (at : StandsAt file end payload) (rest : List ℕ) → end ≡ length (front round done) → new ≡ file
+    → new ≡ front round (done ++ payload ∷ []) ++ rest → 0 < length rest
+gate_behind file new round end done payload at rest place same text =
+    let one = length-front round done in
+    let two = length-front round (done ++ payload ∷ []) in
+    let more = length-records done payload in
+    let whole : length new ≡ length (front round (done ++ payload ∷ []) ++ rest) = ap length text in
+    let parts : length (front round (done ++ payload ∷ []) ++ rest) ≡ length (front round (done ++ payload ∷ [])) + length rest = length-append (front round (done ++ payload ∷ [])) rest in
+    let size : length new ≡ length file = ap length same in
+    let dropped : length (drop end file) ≡ length file - end = length-drop end file in
+    let stands : length (drop end file) ≡ length ((1 ∷ record_text payload) ++ at.rest) = ap length at.text in
+    let both : length ((1 ∷ record_text payload) ++ at.rest) ≡ length (1 ∷ record_text payload) + length at.rest = length-append (1 ∷ record_text payload) at.rest in
+    let record_is = length-record payload in
+    let more_is = at.more in
+    omega arith
 
 -- the first of some payloads, and those behind it
 first_parts : (payload : List ℕ) (more : List (List ℕ)) → Some payload ≡ first_of more → (rest : List (List ℕ)) × (more ≡ payload ∷ rest)
@@ -57,7 +96,10 @@ module _ (start live spare : Shown) (round end : ℕ) (d : DurableState) (first 
 
   -- a payload is given
   module _ (new spare_new : Shown) (end_new : ℕ) (payload : List ℕ) (quiet : Quiet live new) (reading : IsReading new spare_new round end_new (so_far.done ++ payload ∷ []))
-      (held : (more : List (List ℕ)) → IsHalf round (so_far.done ++ more) live.seen → Some payload ≡ first_of more) where
+      (held : (more : List (List ℕ)) → IsHalf round (so_far.done ++ more) live.seen → Some payload ≡ first_of more) (at : StandsAt live.seen end payload) where
+    rest_behind : 0 < length reading.rest
+    rest_behind = gate_behind live.seen new.seen round end so_far.done payload at reading.rest so_far.reads.reading.place (quiet.seen) reading.text
+
     given_more : (payloads : List (List ℕ)) → IsHalf round payloads start.seen → (more : List (List ℕ)) × (payloads ≡ (so_far.done ++ payload ∷ []) ++ more)
     given_more payloads half =
         let old = so_far.held payloads half in
@@ -75,6 +117,7 @@ module _ (start live spare : Shown) (round end : ℕ) (d : DurableState) (first 
         first_is = first-push so_far.reads.actions ys first still so_far.reads.first_is first_is;
       };
       quiet = quiet_on start live new so_far.quiet quiet;
+      gate = inr rest_behind;
       held = given_more;
     }
 
@@ -88,9 +131,11 @@ module _ (start live spare : Shown) (round end : ℕ) (d : DurableState) (first 
         rest = so_far.reads.reading.rest;
         text = sym so_far.quiet.seen ∙ so_far.reads.reading.text;
         place = so_far.reads.reading.place;
+        sizes = so_far.reads.reading.sizes;
+        gate = so_far.gate;
         state = d;
         folds = state_between so_far.done so_far.reads.actions d so_far.reads.are so_far.reads.folds;
-        fault = inr (payload, reading.rest, sym (quiet.seen ∙ so_far.quiet.seen) ∙ reading.text, stands_for_none);
+        fault = inr (payload, subst (λ (f : List ℕ). StandsAt f end payload) so_far.quiet.seen at, last_has (λ p. length p < 2 ^ 32) so_far.done payload reading.sizes, stands_for_none);
       }
 
       pub never_held : (payloads : List (List ℕ)) (state : DurableState) → IsHalf round payloads start.seen → state_in payloads ≡ Some state → ⊥
@@ -122,6 +167,8 @@ module _ (start live spare : Shown) (round end : ℕ) (d : DurableState) (first 
     rest = so_far.reads.reading.rest;
     text = sym so_far.quiet.seen ∙ so_far.reads.reading.text;
     place = so_far.reads.reading.place;
+    sizes = so_far.reads.reading.sizes;
+    gate = so_far.gate;
     state = d;
     folds = state_between so_far.done so_far.reads.actions d so_far.reads.are so_far.reads.folds;
     fault = inl (ap (λ (l : List ℕ). next_of (drop end l)) (sym so_far.quiet.seen) ∙ cut);

@@ -15,7 +15,7 @@ use Rattle.ox_journal.specs.declared.head.Choice.{Choice}
 use Rattle.ox_journal.specs.declared.head.Choice.TheVariants.{Neither, Damaged, Live}
 use Rattle.ox_journal.specs.declared.fault.JournalFault.{JournalFault}
 use Rattle.ox_journal.specs.declared.fault.JournalFault.TheVariants.{Unformatted, DiskFault, NoMemory, Damaged as DamagedAt}
-use Rattle.ox_wal.specs.Files.{state_in, HoldsState, Stands, StandFor, Keeps, Breaks, IsDamaged, half_of}
+use Rattle.ox_wal.specs.Files.{state_in, HoldsState, Stands, StandFor, Keeps, Breaks, IsDamaged, IsFormatted, half_of}
 use Rattle.ox_wal.proofs.Crashes.{aside_seen, keeps_seen}
 
 pub half_cases : (n : ℕ) → n < 2 → (n ≡ 0) ⊎ (n ≡ 1)
@@ -118,7 +118,7 @@ module _ (first second first_now second_now : Shown) (quiet : BothQuiet first se
   pub dead_second : head_of second.seen ≡ Dead
   dead_second = ap head_of (sym quiet.two.seen) ∙ dead_both.1
 
-  made_stands : (c : List ℕ) → DeadOrMade c → Stands c second_now.seen blank
+  pub made_stands : (c : List ℕ) → DeadOrMade c → Stands c second_now.seen blank
   made_stands c (inl dead) = inr (dead, dead_both.1, refl)
   made_stands c (inr half) = inl (record { payloads = []; holds = inl (0, half, inl dead_both.1); folds = refl })
 
@@ -142,6 +142,10 @@ pub if_ok : {T E : Type 0} {P Q : T → Type 0} (r : Result T E) → IfOk r P �
 if_ok (Ok t) h weaker = weaker t h
 if_ok (Err e) h weaker = tt
 
+pub if_ok_each : {T E A : Type 0} (P : A → Type 0) (Q : A → T → Type 0) (r : Result T E) → ((a : A) → P a → IfOk r (Q a)) → IfOk r (λ t. (a : A) → P a → Q a t)
+if_ok_each P Q (Ok t) each = each
+if_ok_each P Q (Err e) each = tt
+
 pub if_err : {T E : Type 0} {P Q : E → Type 0} (r : Result T E) → IfErr r P → ((e : E) → P e → Q e) → IfErr r Q
 if_err (Ok t) h weaker = tt
 if_err (Err e) h weaker = weaker e h
@@ -159,3 +163,8 @@ not_damaged x half at is (inr memory) = let clash : DamagedAt half at ≡ NoMemo
 
 pub stand_blank : (first second : Shown) (d : DurableState) → d ≡ blank → StandFor first second d → StandFor first second blank
 stand_blank first second d is stand = subst (λ (s : DurableState). StandFor first second s) is stand
+
+-- a pair on which neither is live, before as well
+pub not_formatted : (first second a b : Shown) → BothQuiet first second a b → IsUnformatted a b → IsFormatted first second → ⊥
+not_formatted first second a b quiet none formatted =
+    formatted (ap (λ (f : List ℕ). choice (head_of f) (head_of second.seen)) (sym quiet.one.seen) ∙ ap (λ (f : List ℕ). choice (head_of a.seen) (head_of f)) (sym quiet.two.seen) ∙ none.heads)

@@ -1,5 +1,5 @@
 -- The forms of actions are exact.
-use Rattle.std.proofs.Common.{◌≡◌, ℕ, List, Option, Some, refl, sym, ap}
+use Rattle.std.proofs.Common.{◌≡◌, ℕ, List, Some, refl, sym, ap}
 use Rattle.ox_types.specs.declared.log.Head.{Head}
 use Rattle.ox_types.specs.declared.log.Entry.{Entry}
 use Rattle.ox_types.specs.declared.log.Seat.{Seat}

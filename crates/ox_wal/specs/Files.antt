@@ -1,18 +1,21 @@
 -- The state that two files stand for.
-use Rattle.std.specs.Prelude.{◌≡◌, ◌⊎◌, ℕ, Bool, true, false, length, drop, ◌==◌, if◌then◌else◌, List, [], ◌∷◌, ◌++◌, Option, Some, None, option_and_then}
+use Rattle.std.specs.Prelude.{◌≡◌, ◌⊎◌, ℕ, ◌<◌, ◌^◌, Bool, true, false, All, length, drop, ◌==◌, if◌then◌else◌, List, [], ◌∷◌, ◌++◌, Option, Some, None, option_and_then}
 use Rattle.std.specs.Result.{result_ok}
+use mathlib.Core.Logic.{◌≢◌}
 use Rattle.ox_types.specs.declared.durable.Action.{Action}
 use Rattle.ox_types.specs.Durable.{DurableState, blank, fold_actions}
 use Rattle.ox_outside.specs.Disk.{Shown, MayLeave, IsSynced}
 use Rattle.ox_bytes.specs.Fields.{whole_of}
 use Rattle.ox_wal.specs.ActionForms.{actions}
+use Rattle.ox_journal.specs.Chain.{OneOf}
 use Rattle.ox_journal.specs.Head.{head_of, choice}
 use Rattle.ox_journal.specs.Half.{front}
-use Rattle.ox_journal.specs.Next.{next_of}
+use Rattle.ox_journal.specs.Next.{next_of, StandsAt}
+use Rattle.ox_journal.specs.Opening.{chosen}
 use Rattle.ox_journal.specs.Pair.{Holds, IsOpen, IsReading}
 use Rattle.ox_journal.specs.declared.reading.Next.TheVariants.{Cut}
 use Rattle.ox_journal.specs.declared.head.Head.TheVariants.{Dead}
-use Rattle.ox_journal.specs.declared.head.Choice.TheVariants.{Damaged, Live}
+use Rattle.ox_journal.specs.declared.head.Choice.TheVariants.{Damaged, Live, Neither}
 
 -- the actions of a payload, where it is a list of actions
 abbrev pub actions_of : List ℕ → Option (List Action)
@@ -66,17 +69,20 @@ pub record Reads (live spare : Shown) (round end : ℕ) (d : DurableState) (firs
   pub folds : fold_actions actions ≡ Some d
   pub first_is : first ≡ still_first true actions
 
--- At this place of a live half of this round, behind payloads that stand for a state, the file ends before a record or
--- its following gate does, or a record stands whose payload isn't a list of actions or doesn't fold.
+-- At this place of a live half of this round, behind payloads that stand for a state, each with the gate behind it, the file
+-- ends before a record or its following gate does, or a record with its following gate stands whose payload isn't a list of
+-- actions or doesn't fold. There is one such place at most.
 pub record Breaks (file : List ℕ) (round at : ℕ) : Type 0 where
   pub done : List (List ℕ)
   pub rest : List ℕ
   pub text : file ≡ front round done ++ rest
   pub place : at ≡ length (front round done)
+  pub sizes : All (λ p. length p < 2 ^ 32) done
+  pub gate : (done ≡ []) ⊎ (0 < length rest)
   pub state : DurableState
   pub folds : state_in done ≡ Some state
   pub fault : (next_of (drop at file) ≡ Cut)
-      ⊎ ((payload : List ℕ) × (more : List ℕ) × (file ≡ front round (done ++ payload ∷ []) ++ more) × (state_in (done ++ payload ∷ []) ≡ None))
+      ⊎ ((payload : List ℕ) × StandsAt file at payload × (length payload < 2 ^ 32) × (state_in (done ++ payload ∷ []) ≡ None))
 
 -- Two disks that stand for this state, now and whatever a crash leaves of them. Of an unformatted pair the second, which
 -- is never written before the first is formatted, is synced.
@@ -84,6 +90,19 @@ pub record StandFor (first second : Shown) (d : DurableState) : Type 0 where
   pub seen : Stands first.seen second.seen d
   pub left : (c e : List ℕ) → MayLeave first c → MayLeave second e → Stands c e d
   pub synced : head_of first.seen ≡ Dead → head_of second.seen ≡ Dead → IsSynced second
+
+-- a pair of which a half is live, or damaged
+abbrev pub IsFormatted : Shown → Shown → Type 0
+IsFormatted first second = chosen first second ≢ Neither
+
+-- two files stand for this state
+abbrev pub StandsAs : DurableState → List ℕ → List ℕ → Type 0
+StandsAs d first second = Stands first second d
+
+-- Two disks that stand for one of these states, now and whatever a crash leaves of them.
+pub record StandAmong (first second : Shown) (states : List DurableState) : Type 0 where
+  pub seen : OneOf (Stands first.seen second.seen) states
+  pub left : (c e : List ℕ) → MayLeave first c → MayLeave second e → OneOf (Stands c e) states
 
 -- of two files the one with this number
 abbrev pub half_of : ℕ → List ℕ → List ℕ → List ℕ

@@ -1,6 +1,7 @@
 // The bytes of what a replica writes to its disks, and the blocks of entries (docs/FORMATS.md).
-ghost use Rattle.std.specs.Prelude.{◌≡◌, ◌++◌, IsTrue, IfOk, OnOk};
+ghost use Rattle.std.specs.Prelude.{◌≡◌, IsTrue, IfOk};
 ghost use Rattle.ox_bytes.specs.Reading.{Tells};
+ghost use Rattle.ox_bytes.specs.Writing.{Puts};
 ghost use Rattle.ox_bytes.specs.Fields.{whole_of};
 ghost use Rattle.ox_bytes.specs.LogForms.{entry_blocks as blocks};
 ghost use Rattle.ox_wal.specs.ActionForms.{action as action_form, actions};
@@ -30,12 +31,13 @@ impl Field for Step {
 
     ghost exact = { action_exact };
 
+    #[tactic(auto, using(ox_bytes::specs::WritingLaws::fronts))]
     fn put(&self, to: &mut Writer) -> Result<(), NoMemory> {
         put_action(&self.0, to)
     }
 
     #[tactic(auto, unfolding(crate::specs::ActionForms::action, ox_bytes::specs::Fields::choice_at))]
-    fn take(from: &mut Reader<'_>) -> Result<Step, FieldFault> {
+    fn read(from: &mut Reader<'_>) -> Result<Step, FieldFault> {
         match from.take_tag(5)? {
             0 => Ok(Step(Action::Term(Term(from.take_u64_to(TERM_LIMIT)?)))),
             1 => {
@@ -64,10 +66,10 @@ impl Field for Step {
 }
 
 /// The byte of an action and its fields.
-#[tactic(auto, unfolding(crate::specs::ActionForms::action))]
+#[tactic(auto, using(ox_bytes::specs::WritingLaws::fronts), unfolding(crate::specs::ActionForms::action))]
 fn put_action(action: &Action, to: &mut Writer) -> Result<(), NoMemory>
     requires { IsTrue (action_form.is_lawful action.now) }
-    ensures { OnOk result (to.new ≡ to.old ++ action_form.text action.now) }
+    ensures { Puts result to.old to.new (action_form.text action.now) }
 {
     match action {
         Action::Term(term) => {

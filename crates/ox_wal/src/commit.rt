@@ -1,13 +1,14 @@
 // A batch of actions, kept whole or not at all.
-ghost use Rattle.std.specs.Prelude.{◌≡◌, ◌≢◌, ◌⊎◌, ◌≤◌, ◌+◌, ℕ, true, false, None, Some, Err, length, vec_capacity, IsSome, IsTrue, IfOk, IfErr, OnOk, OnErr};
+ghost use Rattle.std.specs.Prelude.{◌≡◌, ◌≢◌, ◌⊎◌, ◌≤◌, ◌+◌, ◌∷◌, [], ℕ, true, false, None, Some, Err, length, vec_capacity, IsSome, IsTrue, IfOk, IfErr, OnOk, OnErr};
 ghost use Rattle.ox_types.specs.Durable.{DurableState, fold_on};
 ghost use Rattle.ox_outside.specs.Causes.{Rose};
 ghost use Rattle.ox_outside.specs.Disk.{CallsLater};
 ghost use Rattle.ox_wal.specs.ActionForms.{actions as actions_form};
+ghost use Rattle.ox_journal.specs.Chain.{LeavesInTurn, in_order};
 ghost use Rattle.ox_journal.specs.Pair.{LeavesPairs};
 ghost use Rattle.ox_journal.specs.declared.state.State.TheVariants.{Broken};
 ghost use Rattle.ox_wal.specs.Blocks.{first_full};
-ghost use Rattle.ox_wal.specs.Files.{BeforeOrBehind, Keeps};
+ghost use Rattle.ox_wal.specs.Files.{BeforeOrBehind, Keeps, StandAmong, StandsAs};
 ghost use Rattle.ox_wal.specs.State.{state_of, drafted, IsDraft};
 ghost use Rattle.ox_wal.specs.declared.fault.CommitFault.TheVariants.{LogFull, DiskFault, NoMemory};
 
@@ -62,7 +63,8 @@ impl<D: Disk> Wal<D> {
     }
 
     /// Keeps a batch of actions by one record of the journal. At `Ok` it is acknowledged: from then on each crash leaves
-    /// a pair that stands for the state behind it. It costs a copy of its entries and the writes of its bytes.
+    /// a pair that stands for the state behind it. It costs a copy of its entries and the writes of its bytes; a batch
+    /// without actions is kept without a call.
     pub fn commit(&mut self, actions: &[Action]) -> Result<(), CommitFault>
         requires spelled { IsTrue (actions_form.is_lawful actions.now) }
         requires size { length (actions_form.text actions.now) ≤ 4194304 }
@@ -78,7 +80,17 @@ impl<D: Disk> Wal<D> {
             → fold_on false (state_of self.old.log) actions.now ≡ Some behind
             → LeavesPairs (D.shows self.old.journal.live) (D.shows self.old.journal.spare) (D.shows self.new.journal.live) (D.shows self.new.journal.spare)
             (BeforeOrBehind (state_of self.old.log) behind) }
-        ensures calls { D.tells → OnOk result (CallsLater 4 (D.shows self.old.journal.live) (D.shows self.new.journal.live)) }
+        ensures in_turn { (behind : DurableState) → D.tells → self.old.journal.state ≢ Broken
+            → fold_on false (state_of self.old.log) actions.now ≡ Some behind
+            → LeavesInTurn D.shows StandsAs ((state_of self.old.log ∷ behind ∷ []) ∷ [])
+            (in_order self.old.journal.half self.old.journal.live self.old.journal.spare)
+            (in_order self.new.journal.half self.new.journal.live self.new.journal.spare) }
+        ensures among { (behind : DurableState) → D.tells → self.old.journal.state ≢ Broken
+            → fold_on false (state_of self.old.log) actions.now ≡ Some behind
+            → StandAmong (D.shows (in_order self.new.journal.half self.new.journal.live self.new.journal.spare).0)
+            (D.shows (in_order self.new.journal.half self.new.journal.live self.new.journal.spare).1) (state_of self.old.log ∷ behind ∷ []) }
+        ensures calls { D.tells → actions.now ≢ [] → OnOk result (CallsLater 4 (D.shows self.old.journal.live) (D.shows self.new.journal.live)) }
+        ensures no_calls { actions.now ≡ [] → self.new.journal ≡ self.old.journal }
         ensures fits { OnOk result (first_full self.old.blocks (state_of self.old.log) actions.now ≡ None) }
         ensures full { (need free : ℕ) → result ≡ Err (LogFull need free)
             → first_full self.old.blocks (state_of self.old.log) actions.now ≡ Some (need, free) }
@@ -93,6 +105,9 @@ impl<D: Disk> Wal<D> {
     {
         if let State::Broken = self.journal.state {
             return Err(CommitFault::DiskFault);
+        }
+        if actions.is_empty() {
+            return Ok(());
         }
         let (draft, text) = self.stage(actions)?;
         match self.journal.append(text.as_slice()) {

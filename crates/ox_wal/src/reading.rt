@@ -1,6 +1,7 @@
 // What a log says of itself.
 ghost use Rattle.std.specs.Prelude.{◌≡◌, ◌-◌, IfOk};
 ghost use Rattle.ox_types.specs.Durable.{head_of, table_of};
+ghost use Rattle.ox_journal.specs.Chain.{in_order};
 ghost use Rattle.ox_wal.specs.Blocks.{blocks_used};
 ghost use Rattle.ox_wal.specs.Follow.{entry_at, term_of};
 ghost use Rattle.ox_wal.specs.State.{state_of};
@@ -140,6 +141,7 @@ impl<D: Disk> Wal<D> {
     pub fn close(self) -> (D, D)
         ensures zero { self.journal.half ≡ 0 → (result.0 ≡ self.journal.live) × (result.1 ≡ self.journal.spare) }
         ensures one { self.journal.half ≡ 1 → (result.0 ≡ self.journal.spare) × (result.1 ≡ self.journal.live) }
+        ensures order { result ≡ in_order self.journal.half self.journal.live self.journal.spare }
     {
         let Wal { journal, .. } = self;
         journal.close()

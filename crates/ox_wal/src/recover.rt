@@ -1,14 +1,15 @@
 // A log from its journal.
-ghost use Rattle.std.specs.Prelude.{◌≡◌, ◌≢◌, ◌⊎◌, ◌≤◌, ◌<◌, ℕ, List, [], Some, Err, IfOk, IfErr, OnOk};
+ghost use Rattle.std.specs.Prelude.{◌≡◌, ◌≢◌, ◌⊎◌, ◌≤◌, ◌<◌, ℕ, List, [], ◌∷◌, Some, Err, IfOk, IfErr, OnOk};
 ghost use Rattle.ox_types.specs.Durable.{DurableState, blank};
 ghost use Rattle.ox_outside.specs.Causes.{Rose};
 ghost use Rattle.ox_outside.specs.Disk.{LeavesOnly, Quiet};
+ghost use Rattle.ox_journal.specs.Chain.{LeavesInTurn, OneOf, in_order};
 ghost use Rattle.ox_journal.specs.Made.{DeadOrMade};
-ghost use Rattle.ox_journal.specs.Opening.{IsUnformatted};
+ghost use Rattle.ox_journal.specs.Opening.{BothQuiet, IsUnformatted};
 ghost use Rattle.ox_journal.specs.Pair.{IsHalf, IsReading, LeavesPairs};
 ghost use Rattle.ox_journal.specs.declared.state.State.TheVariants.{Open, Reading};
 ghost use Rattle.ox_wal.specs.Blocks.{blocks_used};
-ghost use Rattle.ox_wal.specs.Files.{Breaks, IsDamaged, Keeps, StandFor, Stands, state_in};
+ghost use Rattle.ox_wal.specs.Files.{Breaks, IsDamaged, IsFormatted, Keeps, StandAmong, StandFor, Stands, StandsAs, state_in};
 ghost use Rattle.ox_wal.specs.State.{state_of};
 ghost use Rattle.ox_wal.specs.declared.fault.WalFault.TheVariants.{Damaged, TooFewBlocks, DiskFault, NoMemory};
 
@@ -134,6 +135,8 @@ impl<D: Disk> Wal<D> {
         ensures only { IfErr result (λ e. (e.0 ≡ DiskFault) ⊎ (e.0 ≡ NoMemory)) }
         ensures open_ok { IfOk result (λ w. (w.journal.state ≡ Open) × (w.blocks ≡ blocks) × (w.journal.half ≡ 0)) }
         ensures left { D.tells → IfOk result (λ w. (w.journal.spare ≡ second) × LeavesOnly (D.shows first) (D.shows w.journal.live) DeadOrMade) }
+        ensures made { D.tells → IfOk result (λ w. (w.journal.half ≡ 0) × (w.journal.spare ≡ second)
+            × LeavesOnly (D.shows first) (D.shows w.journal.live) DeadOrMade) }
         ensures left_err { D.tells → IfErr result (λ e. (e.2 ≡ second) × LeavesOnly (D.shows first) (D.shows e.1) DeadOrMade) }
         ensures cause { IfErr result (λ e. e.0 ≡ DiskFault → Rose (D.faults first) (D.faults e.1)) }
         ensures later { IfOk result (λ w. (w.journal.half ≡ 0) × (w.journal.spare ≡ second) × (D.faults first ≤ D.faults w.journal.live)) }
@@ -181,6 +184,21 @@ impl<D: Disk> Wal<D> {
             → IfOk result (λ w. w.journal.half ≡ 1 → LeavesPairs (D.shows first) (D.shows second) (D.shows w.journal.spare) (D.shows w.journal.live) (λ c d. Stands c d state)) }
         ensures any_moment_err { (state : DurableState) → D.tells → StandFor (D.shows first) (D.shows second) state
             → IfErr result (λ e. LeavesPairs (D.shows first) (D.shows second) (D.shows e.1) (D.shows e.2) (λ c d. Stands c d state)) }
+        ensures in_turn { (states : List DurableState) → D.tells → StandAmong (D.shows first) (D.shows second) states
+            → IfOk result (λ w. LeavesInTurn D.shows StandsAs (states ∷ states ∷ []) (first, second) (in_order w.journal.half w.journal.live w.journal.spare)) }
+        ensures in_turn_err { (states : List DurableState) → D.tells → StandAmong (D.shows first) (D.shows second) states
+            → IfErr result (λ e. LeavesInTurn D.shows StandsAs (states ∷ states ∷ []) (first, second) (e.1, e.2)) }
+        ensures among { (states : List DurableState) → D.tells → StandAmong (D.shows first) (D.shows second) states
+            → IfOk result (λ w. OneOf (λ s. state_of w.log ≡ s) states) }
+        ensures among_err { (states : List DurableState) → D.tells → StandAmong (D.shows first) (D.shows second) states
+            → IfErr result (λ e. StandAmong (D.shows e.1) (D.shows e.2) states) }
+        ensures quiet_zero { D.tells → IfOk result (λ w. IsFormatted (D.shows first) (D.shows second) → w.journal.half ≡ 0
+            → BothQuiet (D.shows first) (D.shows second) (D.shows w.journal.live) (D.shows w.journal.spare)) }
+        ensures quiet_one { D.tells → IfOk result (λ w. IsFormatted (D.shows first) (D.shows second) → w.journal.half ≡ 1
+            → BothQuiet (D.shows first) (D.shows second) (D.shows w.journal.spare) (D.shows w.journal.live)) }
+        ensures quiet_err { D.tells → IfErr result (λ e. IsFormatted (D.shows first) (D.shows second)
+            → BothQuiet (D.shows first) (D.shows second) (D.shows e.1) (D.shows e.2)) }
+        ensures second_err { D.tells → IfErr result (λ e. Quiet (D.shows second) (D.shows e.2)) }
         ensures cause { IfErr result (λ e. e.0 ≡ DiskFault → Rose (D.faults first) (D.faults e.1) ⊎ Rose (D.faults second) (D.faults e.2)) }
         ensures later_zero { IfOk result (λ w. w.journal.half ≡ 0 → (D.faults first ≤ D.faults w.journal.live) × (D.faults second ≤ D.faults w.journal.spare)) }
         ensures later_one { IfOk result (λ w. w.journal.half ≡ 1 → (D.faults second ≤ D.faults w.journal.live) × (D.faults first ≤ D.faults w.journal.spare)) }

@@ -1,9 +1,10 @@
 // The log of a replica on a pair of disks.
-ghost use Rattle.std.specs.Prelude.{◌≢◌, ◌≤◌, ℕ, List};
+ghost use Rattle.std.specs.Prelude.{◌≡◌, ◌≢◌, ◌≤◌, ◌++◌, ℕ, List};
 ghost use Rattle.ox_types.specs.Durable.{DurableState};
 ghost use Rattle.ox_outside.specs.Disk.{MayLeave};
+ghost use Rattle.ox_journal.specs.Chain.{LeavesInTurn};
 ghost use Rattle.ox_journal.specs.declared.state.State.TheVariants.{Reading};
-ghost use Rattle.ox_wal.specs.Files.{HoldsState, Keeps};
+ghost use Rattle.ox_wal.specs.Files.{Breaks, HoldsState, Keeps, StandsAs};
 
 use crate::log::Log;
 use ox_journal::Journal;
@@ -23,6 +24,18 @@ pub struct Wal<D: Disk> {
 }
 
 impl<D: Disk> Wal<D> {
+    /// Two runs of calls, one behind the other, are one.
+    pub fn law_joined()
+        ensures { (steps more : List (List DurableState)) (first mid last : D × D)
+            → LeavesInTurn D.shows StandsAs steps first mid → LeavesInTurn D.shows StandsAs more mid last
+            → LeavesInTurn D.shows StandsAs (steps ++ more) first last }
+    {}
+
+    /// A file breaks at one place at most.
+    pub fn law_one_place()
+        ensures { (file : List ℕ) (round a b : ℕ) → Breaks file round a → Breaks file round b → a ≡ b }
+    {}
+
     /// Two disks with a journal that keeps a state stand for it, now and whatever a crash leaves of them.
     pub fn law_kept(&self)
         ensures seen { (state : DurableState) → D.tells

@@ -4,3 +4,6 @@ pub mod MessageForms
 pub mod MessageLaws
 pub mod Rules
 pub mod Spells
+pub mod Events
+pub mod Effects
+pub mod Origins

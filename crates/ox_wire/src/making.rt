@@ -1,5 +1,6 @@
 // Messages that can be written, made of parts that can.
 ghost use Rattle.std.specs.Prelude.{◌≡◌, ◌<◌, ◌≤◌, ◌^◌, length, IsTrue};
+ghost use Rattle.ox_types.specs.Limits.{term_limit, count_limit};
 ghost use Rattle.ox_bytes.specs.LogForms.{peer as peer_form};
 ghost use Rattle.ox_wire.specs.declared.message.Message.TheVariants as message_is;
 ghost use Rattle.ox_wire.specs.declared.message.Outcome.TheVariants as outcome_is;
@@ -45,8 +46,8 @@ impl Outcome {
     /// The write is committed at this term and offset, with this reply, whose length has four bytes.
     #[tactic(auto, unfolding(crate::specs::MessageForms::outcome))]
     pub fn ack(term: Term, offset: u64, reply: Octets) -> Outcome
-        requires small_term { term ≤ 2 ^ 53 }
-        requires small_offset { offset < 2 ^ 53 }
+        requires small_term { term ≤ term_limit }
+        requires small_offset { offset < count_limit }
         requires countable { length reply < 2 ^ 32 }
         ensures same { result ≡ outcome_is.Ack term offset reply }
         ensures lawful { IsTrue (outcome_form.is_lawful result) }
@@ -61,8 +62,8 @@ impl Outcome {
     /// The read was answered at so many committed entries, with this answer, whose length has four bytes.
     #[tactic(auto, unfolding(crate::specs::MessageForms::outcome))]
     pub fn read(term: Term, prefix: u64, answer: Octets) -> Outcome
-        requires small_term { term ≤ 2 ^ 53 }
-        requires small_prefix { prefix ≤ 2 ^ 53 }
+        requires small_term { term ≤ term_limit }
+        requires small_prefix { prefix ≤ count_limit }
         requires countable { length answer < 2 ^ 32 }
         ensures same { result ≡ outcome_is.Read term prefix answer }
         ensures lawful { IsTrue (outcome_form.is_lawful result) }

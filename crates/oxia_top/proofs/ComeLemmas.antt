@@ -2,10 +2,11 @@
 use Rattle.std.proofs.Common.{◌≡◌, ℕ, ◌+◌, Bool, List, ◌++◌, Result, Ok, Err, IfOk}
 use Rattle.ox_types.specs.declared.memory.NoMemory.{NoMemory}
 use Rattle.ox_meaning.specs.Shard.{shard_meaning}
-use Rattle.ox_replica.specs.declared.input.Input.TheVariants.{Client}
+use Rattle.ox_solo_replica.specs.declared.input.Input.TheVariants.{Client}
 use Rattle.ox_report.specs.Effect.{effect_line}
-use Rattle.ox_safety.specs.Event.{Request, Arrival}
-use Rattle.ox_safety.specs.Run.{Knife, arrives, comes, node_takes}
+use Rattle.ox_wire.specs.declared.event.Request.{Request}
+use Rattle.ox_wire.specs.Effects.{Arrival}
+use Rattle.ox_solo_safety.specs.Run.{Knife, arrives, comes, node_takes}
 use Rattle.oxia_top.specs.Running.{Running, Follows}
 use Rattle.oxia_top.proofs.TextLemmas.{told_first}
 

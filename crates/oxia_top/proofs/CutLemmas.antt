@@ -4,10 +4,10 @@ use Rattle.ox_types.specs.declared.durable.KeptAs.{KeptAs}
 use Rattle.ox_types.specs.declared.log.Head.{Head}
 use Rattle.ox_types.specs.Durable.{DurableState, head_of}
 use Rattle.ox_ops.specs.State.{ShardState}
-use Rattle.ox_replica.specs.declared.output.Cut.TheVariants.{Whole, Down}
-use Rattle.ox_replica.specs.declared.output.Output.{Output}
-use Rattle.ox_replica.specs.Kept.{kept_as}
-use Rattle.ox_replica.specs.Step.{Stepped, output_of}
+use Rattle.ox_solo_replica.specs.declared.output.Cut.TheVariants.{Whole, Down}
+use Rattle.ox_solo_replica.specs.declared.output.Output.{Output}
+use Rattle.ox_solo_replica.specs.Kept.{kept_as}
+use Rattle.ox_solo_replica.specs.Step.{Stepped, output_of}
 
 -- it is whole where it makes fewer calls
 pub whole_by : (d : DurableState) (step : Stepped ShardState) (b s : Bool) (output : Output)

@@ -7,18 +7,20 @@ use Rattle.ox_types.specs.declared.memory.NoMemory.{NoMemory}
 use Rattle.ox_types.specs.Durable.{count_of}
 use Rattle.ox_ops.specs.State.{ShardState}
 use Rattle.ox_meaning.specs.Shard.{shard_meaning}
-use Rattle.ox_replica.specs.declared.input.Input.{Input}
-use Rattle.ox_replica.specs.declared.output.Cut.TheVariants.{Whole, Down}
-use Rattle.ox_replica.specs.declared.output.Output.{Output}
-use Rattle.ox_replica.specs.Step.{Stepped, output_of, replica_step}
-use Rattle.ox_replica.specs.Cutting.{calls_of, cut_step, stands_at}
+use Rattle.ox_solo_replica.specs.declared.input.Input.{Input}
+use Rattle.ox_solo_replica.specs.declared.output.Cut.TheVariants.{Whole, Down}
+use Rattle.ox_solo_replica.specs.declared.output.Output.{Output}
+use Rattle.ox_solo_replica.specs.Step.{Stepped, output_of, replica_step}
+use Rattle.ox_solo_replica.specs.Cutting.{calls_of, cut_step, stands_at}
 use Rattle.ox_report.specs.Effect.{effect_line}
-use Rattle.ox_safety.specs.declared.origin.Cause.{Cause}
-use Rattle.ox_safety.specs.Event.{Image, stands}
-use Rattle.ox_safety.specs.Event.{Effect as effect}
-use Rattle.ox_safety.specs.Run.{Knife, cause_at, cuts, kept_effects, node_takes, origin_of, takes_whole}
-use Rattle.ox_safety.specs.Run.{Knife as knife}
-use Rattle.ox_safety.specs.declared.power.Power.TheVariants as power
+use Rattle.ox_wire.specs.declared.origin.Cause.{Cause}
+use Rattle.ox_wire.specs.declared.event.Image.{Image}
+use Rattle.ox_wire.specs.Events.{stands}
+use Rattle.ox_wire.specs.Effects.{Effect as effect}
+use Rattle.ox_wire.specs.Effects.{kept_effects}
+use Rattle.ox_solo_safety.specs.Run.{Knife, cause_at, cuts, node_takes, origin_of, takes_whole}
+use Rattle.ox_solo_safety.specs.Run.{Knife as knife}
+use Rattle.ox_solo_safety.specs.declared.power.Power.TheVariants as power
 use Rattle.oxia_top.specs.Node.{behind_cut, gone}
 use Rattle.oxia_top.specs.Running.{Running, Follows, node_in, noted, settled, whole_seen, with_node}
 use Rattle.oxia_top.proofs.CutLemmas.{IsDown, whole_by, down_by}

@@ -6,12 +6,12 @@ use Rattle.std.proofs.lemmas.Option.{slice_get-map}
 use Rattle.std.specs.List.Sorted.{IsPermutation}
 use Rattle.std.proofs.lemmas.List.Elements.{All-head, All-cons}
 use Rattle.std.proofs.lemmas.List.Sorted.{length_permutation, All-permutation}
-use Rattle.ox_replica.specs.declared.output.Outgoing.{Outgoing}
+use Rattle.ox_solo_replica.specs.declared.output.Outgoing.{Outgoing}
 use Rattle.ox_report.specs.Effect.{effect_line}
 use Rattle.ox_types.specs.declared.peer.Peer.TheVariants.{Node}
-use Rattle.ox_safety.specs.Event.{Sent}
-use Rattle.ox_safety.specs.World.{Message}
-use Rattle.ox_safety.specs.Run.{message_at, messages_of, sent_effects}
+use Rattle.ox_wire.specs.Effects.{Sent}
+use Rattle.ox_solo_safety.specs.World.{Message}
+use Rattle.ox_solo_safety.specs.Run.{message_at, messages_of, sent_effects}
 use Rattle.oxia_top.specs.declared.letter.Letter.{Letter}
 use Rattle.oxia_top.specs.declared.letter.Letter.TheVariants as letter
 use Rattle.oxia_top.specs.Letters.{Finds, found_as, letter_at, message_of, messages_in}

@@ -7,21 +7,21 @@ use Rattle.ox_wal.specs.Files.{HoldsState, Stands}
 use Rattle.ox_ops.specs.State.{ShardState}
 use Rattle.ox_meaning.specs.Shard.{shard_meaning}
 use Rattle.ox_wire.specs.declared.body.Body.TheVariants.{NewTerm}
-use Rattle.ox_replica.specs.declared.input.Input.{Input}
-use Rattle.ox_replica.specs.declared.input.Input.TheVariants.{Peer}
-use Rattle.ox_replica.specs.State.{Held, ReplicaState}
-use Rattle.ox_replica.specs.Recovered.{recovered}
-use Rattle.ox_replica.specs.Moving.{advance}
-use Rattle.ox_replica.specs.State.{view_at}
-use Rattle.ox_replica.specs.Term.{refuses, leads}
-use Rattle.ox_replica.specs.Step.{replica_step, row_at, stepped}
+use Rattle.ox_solo_replica.specs.declared.input.Input.{Input}
+use Rattle.ox_solo_replica.specs.declared.input.Input.TheVariants.{Peer}
+use Rattle.ox_solo_replica.specs.State.{Held, ReplicaState}
+use Rattle.ox_solo_replica.specs.Recovered.{recovered}
+use Rattle.ox_solo_replica.specs.Moving.{advance}
+use Rattle.ox_solo_replica.specs.State.{view_at}
+use Rattle.ox_solo_replica.specs.Term.{refuses, leads}
+use Rattle.ox_solo_replica.specs.Step.{replica_step, row_at, stepped}
 use Rattle.ox_types.specs.declared.refusal.Refusal.TheVariants.{LogFull}
 use Rattle.ox_quorum.specs.declared.config.Config.TheVariants.{One}
 use Rattle.ox_wire.specs.declared.body.Asked.TheVariants as asked
-use Rattle.ox_safety.specs.World.{opening_replica, reopened}
-use Rattle.ox_safety.specs.Run.{lead_body}
-use Rattle.ox_safety.specs.declared.power.Power.{Power}
-use Rattle.ox_safety.specs.declared.power.Power.TheVariants.{Up, Down}
+use Rattle.ox_solo_safety.specs.World.{opening_replica, reopened}
+use Rattle.ox_solo_safety.specs.Run.{lead_body}
+use Rattle.ox_solo_safety.specs.declared.power.Power.{Power}
+use Rattle.ox_solo_safety.specs.declared.power.Power.TheVariants.{Up, Down}
 use Rattle.oxia_top.specs.Node.{NodeState, node_of, shows}
 
 -- two blank files stand for the blank state

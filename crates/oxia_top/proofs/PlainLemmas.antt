@@ -17,16 +17,16 @@ use Rattle.ox_wire.specs.declared.body.Body.TheVariants as body
 use Rattle.ox_machine.specs.Meaning.{Meaning}
 use Rattle.ox_machine.specs.Bytes.{value_in}
 use Rattle.ox_timer.specs.Timers.{due}
-use Rattle.ox_replica.specs.declared.input.Input.{Input}
-use Rattle.ox_replica.specs.declared.input.Input.TheVariants as input
-use Rattle.ox_replica.specs.declared.leading.Leading.{Leading}
-use Rattle.ox_replica.specs.declared.live.Live.{Live}
-use Rattle.ox_replica.specs.State.{ReplicaState, Row, folded_all}
-use Rattle.ox_replica.specs.Client.{write_by, write_refusal, read_by, answers_or, not_ready}
-use Rattle.ox_replica.specs.Term.{new_term, become_leader, may_lead, lead_again, is_alone}
-use Rattle.ox_replica.specs.Tick.{time_at, ticks_leading, expires_due, has_room}
-use Rattle.ox_replica.specs.Step.{from_coordinator, from_peer, from_client, row_at, row_of, replica_step}
-use Rattle.ox_safety.specs.Run.{appended}
+use Rattle.ox_solo_replica.specs.declared.input.Input.{Input}
+use Rattle.ox_solo_replica.specs.declared.input.Input.TheVariants as input
+use Rattle.ox_solo_replica.specs.declared.leading.Leading.{Leading}
+use Rattle.ox_solo_replica.specs.declared.live.Live.{Live}
+use Rattle.ox_solo_replica.specs.State.{ReplicaState, Row, folded_all}
+use Rattle.ox_solo_replica.specs.Client.{write_by, write_refusal, read_by, answers_or, not_ready}
+use Rattle.ox_solo_replica.specs.Term.{new_term, become_leader, may_lead, lead_again, is_alone}
+use Rattle.ox_solo_replica.specs.Tick.{time_at, ticks_leading, expires_due, has_room}
+use Rattle.ox_solo_replica.specs.Step.{from_coordinator, from_peer, from_client, row_at, row_of, replica_step}
+use Rattle.ox_solo_safety.specs.Run.{appended}
 use Rattle.oxia_top.specs.Node.{between}
 
 -- no action of these drops an entry

@@ -2,16 +2,16 @@
 use Rattle.std.specs.List.{list_all, flat_map}
 use Rattle.std.proofs.Common.{◌≡◌, ◌∙◌, ℕ, ◌+◌, ◌<◌, Bool, true, List, [], ◌∷◌, ◌++◌, length, map, Result, Ok, Err, IfOk, refl, sym, ap, subst, arith, append_assoc, append-nil}
 use Rattle.ox_types.specs.declared.memory.NoMemory.{NoMemory}
-use Rattle.ox_schedule.specs.declared.schedule.Event.{Event}
+use Rattle.ox_schedule.specs.Events.{Event}
 use Rattle.ox_schedule.specs.declared.schedule.Schedule.{Schedule}
 use Rattle.ox_schedule.specs.Lawful.{asks_encodable, is_of_one_node}
 use Rattle.ox_ops.specs.State.{ShardState}
 use Rattle.ox_meaning.specs.Shard.{shard_meaning}
 use Rattle.ox_report.specs.Effect.{effect_line}
-use Rattle.ox_safety.specs.Event.{Event as HappensNext}
-use Rattle.ox_safety.specs.World.{World, opening_world}
-use Rattle.ox_safety.specs.Run.{AreOfOneNode, happens, run_from, run_of, world_after}
-use Rattle.ox_safety.specs.Origins.{AreInStep}
+use Rattle.ox_wire.specs.Events.{RunEvent as HappensNext}
+use Rattle.ox_solo_safety.specs.World.{World, opening_world}
+use Rattle.ox_solo_safety.specs.Run.{AreOfOneNode, happens, run_from, run_of, world_after}
+use Rattle.ox_wire.specs.Origins.{AreInStep}
 use Rattle.oxia_top.specs.Events.{event_of}
 use Rattle.oxia_top.specs.Report.{numbered_line, moment_text, moments_text, end_text, report_of, blocks_of, events_of, last_world}
 use Rattle.oxia_top.specs.Running.{Running, Follows}

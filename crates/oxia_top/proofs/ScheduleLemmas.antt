@@ -10,18 +10,16 @@ use Rattle.ox_machine.specs.Laws.{IsMachine}
 use Rattle.ox_meaning.specs.Shard.{shard_meaning}
 use Rattle.ox_schedule.specs.declared.schedule.Request.{Request}
 use Rattle.ox_schedule.specs.declared.schedule.Request.TheVariants.{Write, Read}
-use Rattle.ox_schedule.specs.declared.schedule.Turn.{Turn}
-use Rattle.ox_schedule.specs.declared.schedule.Turn.TheVariants as turn
-use Rattle.ox_schedule.specs.declared.schedule.Event.{Event}
-use Rattle.ox_schedule.specs.declared.schedule.Event.TheVariants as event
+use Rattle.ox_schedule.specs.Events.{Turn, Event}
+use Rattle.ox_wire.specs.declared.event.Turn.TheVariants as turn
+use Rattle.ox_wire.specs.declared.event.Event.TheVariants as event
 use Rattle.ox_schedule.specs.declared.schedule.First.{First}
 use Rattle.ox_schedule.specs.declared.schedule.First.TheVariants.{Solo}
 use Rattle.ox_schedule.specs.Lawful.{is_encodable, turn_encodable, asks_encodable, turn_of_one_node, is_of_one_node, blocks_fit}
-use Rattle.ox_safety.specs.Event.{Request as Asked, Event as HappensNext}
-use Rattle.ox_safety.specs.Event.{Turn as taken}
-use Rattle.ox_safety.specs.Moments.{turn_of as turn_in}
-use Rattle.ox_safety.specs.Asked.{IsLawful, AskLawfully}
-use Rattle.ox_safety.specs.Run.{IsTurn, IsOfOneNode, AreOfOneNode}
+use Rattle.ox_wire.specs.declared.event.Request.{Request as Asked}
+use Rattle.ox_solo_safety.specs.Moments.{turn_of as turn_in}
+use Rattle.ox_solo_safety.specs.Asked.{IsLawful, AskLawfully}
+use Rattle.ox_solo_safety.specs.Run.{IsTurn, IsOfOneNode, AreOfOneNode}
 use Rattle.oxia_top.specs.Events.{request_of, event_of, turn_of}
 use Rattle.oxia_top.specs.Report.{blocks_of}
 
@@ -65,12 +63,12 @@ module _ (laws : IsMachine shard_meaning) where
   request_lawful (Write g c) h = λ x e. read_again command laws.commands_exact c x h e
   request_lawful (Read q) h = λ x e. read_again query laws.queries_exact q x h e
 
-  turn_lawful : (t : Turn) → turn_encodable t ≡ true → (node shard : ℕ) (q : Asked) → Some (turn_of t) ≡ Some (taken.Client node shard q) → IsLawful shard_meaning q
+  turn_lawful : (t : Turn) → turn_encodable t ≡ true → (node shard : ℕ) (q : Asked) → Some (turn_of t) ≡ Some (turn.Client node shard q) → IsLawful shard_meaning q
   turn_lawful (turn.Client n s r) h node shard q is = let same : request_of r ≡ q = cc in subst (IsLawful shard_meaning) same (request_lawful r h)
   turn_lawful (turn.Deliver k) h node shard q is = absurd cc
   turn_lawful (turn.Tick n s ms) h node shard q is = absurd cc
 
-  event_lawful : (e : Event) → asks_encodable e ≡ true → (node shard : ℕ) (q : Asked) → turn_in (event_of e) ≡ Some (taken.Client node shard q) → IsLawful shard_meaning q
+  event_lawful : (e : Event) → asks_encodable e ≡ true → (node shard : ℕ) (q : Asked) → turn_in (event_of e) ≡ Some (turn.Client node shard q) → IsLawful shard_meaning q
   event_lawful (event.Takes t) h node shard q is = turn_lawful t h node shard q is
   event_lawful (event.Cut call i t) h node shard q is = turn_lawful t h node shard q is
   event_lawful (event.Stop n) h node shard q is = absurd cc

@@ -2,8 +2,8 @@
 use Rattle.std.specs.Prelude.{◌≡◌, ℕ, ◌-◌, ◌==◌, List, map, slice_get, Option, Some, None, if◌then◌else◌}
 use Rattle.ox_types.specs.declared.peer.Peer.TheVariants.{Node, Coordinator}
 use Rattle.ox_wire.specs.declared.body.Body.TheVariants as body
-use Rattle.ox_safety.specs.World.{Message}
-use Rattle.ox_safety.specs.Run.{lead_body}
+use Rattle.ox_solo_safety.specs.World.{Message}
+use Rattle.ox_solo_safety.specs.Run.{lead_body}
 use Rattle.oxia_top.specs.declared.letter.Letter.{Letter}
 use Rattle.oxia_top.specs.declared.letter.Letter.TheVariants as letter
 use Rattle.oxia_top.specs.declared.letter.Found.{Found}

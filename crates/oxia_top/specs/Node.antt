@@ -7,14 +7,14 @@ use Rattle.ox_memory.specs.Log.{shown}
 use Rattle.ox_memory.specs.declared.disk.MemoryDisk.{MemoryDisk}
 use Rattle.ox_ops.specs.State.{ShardState}
 use Rattle.ox_meaning.specs.Shard.{shard_meaning}
-use Rattle.ox_replica.specs.State.{Held, ReplicaState, replica_of}
-use Rattle.ox_replica.specs.Sound.{IsKept}
-use Rattle.ox_replica.specs.Moving.{entries_from}
-use Rattle.ox_replica.specs.Step.{Stepped}
-use Rattle.ox_replica.specs.Cutting.{calls_of, disk_behind}
-use Rattle.ox_safety.specs.World.{reopened}
-use Rattle.ox_safety.specs.declared.power.Power.{Power}
-use Rattle.ox_safety.specs.declared.power.Power.TheVariants.{Up, Down, Lost}
+use Rattle.ox_solo_replica.specs.State.{Held, ReplicaState, replica_of}
+use Rattle.ox_solo_replica.specs.Sound.{IsKept}
+use Rattle.ox_solo_replica.specs.Moving.{entries_from}
+use Rattle.ox_solo_replica.specs.Step.{Stepped}
+use Rattle.ox_solo_replica.specs.Cutting.{calls_of, disk_behind}
+use Rattle.ox_solo_safety.specs.World.{reopened}
+use Rattle.ox_solo_safety.specs.declared.power.Power.{Power}
+use Rattle.ox_solo_safety.specs.declared.power.Power.TheVariants.{Up, Down, Lost}
 
 -- what a disk in memory shows
 abbrev pub shows : MemoryDisk → Shown

@@ -3,16 +3,17 @@ use Rattle.std.specs.Prelude.{ℕ, ◌+◌, List, [], ◌∷◌, ◌++◌, map, 
 use Rattle.std.specs.List.{flat_map}
 use Rattle.ox_ops.specs.State.{ShardState}
 use Rattle.ox_meaning.specs.Shard.{shard_meaning}
-use Rattle.ox_schedule.specs.declared.schedule.Event.{Event}
+use Rattle.ox_schedule.specs.Events.{Event}
 use Rattle.ox_schedule.specs.declared.schedule.First.{First}
 use Rattle.ox_schedule.specs.declared.schedule.First.TheVariants.{Solo}
 use Rattle.ox_schedule.specs.declared.schedule.Schedule.{Schedule}
 use Rattle.ox_schedule.specs.Spelling.{event_line}
 use Rattle.ox_report.specs.Effect.{effect_line}
 use Rattle.ox_report.specs.History.{history_text}
-use Rattle.ox_safety.specs.Event.{Effect, Event as HappensNext}
-use Rattle.ox_safety.specs.World.{World, opening_world}
-use Rattle.ox_safety.specs.Run.{Moment, run_of, world_after}
+use Rattle.ox_wire.specs.Effects.{Effect}
+use Rattle.ox_wire.specs.Events.{RunEvent as HappensNext}
+use Rattle.ox_solo_safety.specs.World.{World, opening_world}
+use Rattle.ox_solo_safety.specs.Run.{Moment, run_of, world_after}
 use Rattle.oxia_top.specs.Events.{event_of}
 
 -- how many blocks a replica has where the first line doesn't say it

@@ -4,18 +4,18 @@ use Rattle.std.specs.List.{flat_map}
 use Rattle.ox_types.specs.declared.log.Entry.{Entry}
 use Rattle.ox_types.specs.Durable.{DurableState, count_of, head_of}
 use Rattle.ox_ops.specs.State.{ShardState}
-use Rattle.ox_replica.specs.declared.output.Output.{Output}
-use Rattle.ox_safety.specs.declared.origin.Cause.{Cause}
-use Rattle.ox_safety.specs.declared.origin.Origin.{Origin}
-use Rattle.ox_safety.specs.World.{World}
-use Rattle.ox_safety.specs.Event.{Effect}
-use Rattle.ox_safety.specs.Run.{Happened, Knife as Knives, kept_effects, whole_effects, sent_effects, messages_of, answer_effects, origin_of, grown}
-use Rattle.ox_safety.specs.Run.{Knife as knives}
+use Rattle.ox_solo_replica.specs.declared.output.Output.{Output}
+use Rattle.ox_wire.specs.declared.origin.Cause.{Cause}
+use Rattle.ox_wire.specs.declared.origin.Origin.{Origin}
+use Rattle.ox_solo_safety.specs.World.{World}
+use Rattle.ox_wire.specs.Effects.{Effect}
+use Rattle.ox_wire.specs.Effects.{kept_effects}
+use Rattle.ox_solo_safety.specs.Run.{Happened, Knife as Knives, whole_effects, sent_effects, messages_of, answer_effects, origin_of, grown}
+use Rattle.ox_solo_safety.specs.Run.{Knife as knives}
 use Rattle.ox_report.specs.Effect.{effect_line}
 use Rattle.oxia_top.specs.declared.letter.Letter.{Letter}
 use Rattle.oxia_top.specs.declared.knife.Knife.{Knife}
 use Rattle.oxia_top.specs.declared.knife.Knife.TheVariants as knife
-use Rattle.oxia_top.specs.Events.{image_of}
 use Rattle.oxia_top.specs.Letters.{messages_in}
 use Rattle.oxia_top.specs.Node.{NodeState, between}
 
@@ -52,7 +52,7 @@ pub record Follows (old : Running) (h : Happened ShardState) (text text' : List 
 -- whether a step may be cut, and where
 abbrev pub knife_of : Knife → Knives
 knife_of knife.Free = knives.Free
-knife_of (knife.At call image) = knives.At call (image_of image)
+knife_of (knife.At call image) = knives.At call image
 
 -- calls of the disks are counted from 1
 abbrev pub IsKnife : Knife → Type 0

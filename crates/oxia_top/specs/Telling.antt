@@ -1,8 +1,8 @@
 -- What the program tells of events, one by one.
 use Rattle.std.specs.Prelude.{◌≡◌, ℕ, List, ◌++◌, map}
 use Rattle.ox_meaning.specs.Shard.{shard_meaning}
-use Rattle.ox_schedule.specs.declared.schedule.Event.{Event}
-use Rattle.ox_safety.specs.Run.{happens, run_from, world_after}
+use Rattle.ox_schedule.specs.Events.{Event}
+use Rattle.ox_solo_safety.specs.Run.{happens, run_from, world_after}
 use Rattle.oxia_top.specs.Events.{event_of}
 use Rattle.oxia_top.specs.Report.{moment_text, moments_text}
 use Rattle.oxia_top.specs.Running.{Running}

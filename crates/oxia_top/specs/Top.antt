@@ -9,8 +9,8 @@ use Rattle.ox_types.specs.declared.ended.Ended.TheVariants.{Done, Usage, BadLine
 use Rattle.ox_schedule.specs.declared.schedule.Schedule.{Schedule}
 use Rattle.ox_schedule.specs.Schedule.{SpellsSchedule, IsFirstBadLine}
 use Rattle.ox_meaning.specs.Shard.{shard_meaning}
-use Rattle.ox_safety.specs.Legal.{IsLegal}
-use Rattle.ox_safety.specs.Shard.{shard_noticing}
+use Rattle.ox_solo_safety.specs.Legal.{IsLegal}
+use Rattle.ox_solo_safety.specs.Shard.{shard_noticing}
 use Rattle.oxia_top.specs.Report.{report_of, blocks_of, events_of}
 use Rattle.oxia_top.specs.Input.{input_limit, ReadsToEnd, ReadsTooMuch, ReadBreaksOff}
 

@@ -1,12 +1,12 @@
 // One event of a run.
 ghost use Rattle.std.specs.Prelude.{◌≡◌, ◌+◌, ◌++◌, IsTrue, IfOk, OnOk};
 ghost use Rattle.ox_meaning.specs.Shard.{shard_meaning};
-ghost use Rattle.ox_replica.specs.Inputs.{IsInput};
-ghost use Rattle.ox_replica.specs.declared.input.Input.TheVariants as input_is;
+ghost use Rattle.ox_solo_replica.specs.Inputs.{IsInput};
+ghost use Rattle.ox_solo_replica.specs.declared.input.Input.TheVariants as input_is;
 ghost use Rattle.ox_report.specs.Effect.{effect_line};
-ghost use Rattle.ox_safety.specs.Event.{Effect as effect};
-ghost use Rattle.ox_safety.specs.Run.{comes, delivers, happens, if_up, lead_body, loses, message_at, node_takes, sends, shown, starts, stops, takes};
-ghost use Rattle.ox_safety.specs.declared.power.Power.TheVariants as power_is;
+ghost use Rattle.ox_wire.specs.Effects.{Effect as effect};
+ghost use Rattle.ox_solo_safety.specs.Run.{comes, delivers, happens, if_up, lead_body, loses, message_at, node_takes, sends, shown, starts, stops, takes};
+ghost use Rattle.ox_solo_safety.specs.declared.power.Power.TheVariants as power_is;
 ghost use Rattle.ox_schedule.specs.Lawful.{asks_encodable, is_encodable, is_of_one_node, turn_encodable};
 ghost use Rattle.ox_types.specs.declared.peer.Peer.TheVariants as peer;
 ghost use Rattle.ox_wire.specs.declared.body.Body.TheVariants as body_is;
@@ -15,14 +15,14 @@ ghost use Rattle.oxia_top.specs.Running.{Follows, IsKnife, knife_of};
 
 use crate::knife::Knife;
 use crate::letter::{Found, Letter, become_leader, leader_body, new_term};
-use crate::wire::{Carried, carry_request};
+use crate::wire::carry_request;
 use crate::world::World;
-use ox_replica::Input;
 use ox_report::{add_arrival, add_down, add_ignored, add_sent, add_unknown};
-use ox_safety::Power;
-use ox_schedule::{Event, Request, Turn};
+use ox_schedule::Request;
+use ox_solo_replica::Input;
+use ox_solo_safety::Power;
 use ox_types::{CoordId, NoMemory, NodeId, Octets, Peer, Term};
-use ox_wire::Body;
+use ox_wire::{Body, Event, Request as Asked, Turn};
 use std::alloc::Global;
 
 impl World {
@@ -76,7 +76,7 @@ impl World {
         ensures { IfOk result (Follows self (comes shard_meaning self.blocks self.world shard (request_of request.now) (knife_of knife)) text.old text.new) }
     {
         let (world, tag) = self.arrive()?;
-        let Carried { write, body } = carry_request(alloc, tag, shard, request)?;
+        let Asked { write, body } = carry_request(alloc, tag, shard, request)?;
         add_arrival(text, tag)?;
         world.take(
             alloc,
@@ -173,7 +173,7 @@ impl World {
         alloc: Global,
         text: &mut Octets,
         knife: Knife,
-        turn: Turn,
+        turn: Turn<Request>,
     ) -> Result<World, NoMemory>
         requires knife { IsKnife knife }
         requires encodable { IsTrue (turn_encodable turn) }
@@ -244,8 +244,13 @@ impl World {
 
     /// What happens next: the world behind it, and what was seen of it as lines of the text. It costs the step of the node. The
     /// event is at node 1 and shard 0. After an `Err` the text is of no use.
-    #[tactic(auto, unfolding(ox_safety::specs::Run::happens))]
-    pub fn happen(self, alloc: Global, text: &mut Octets, event: Event) -> Result<World, NoMemory>
+    #[tactic(auto, unfolding(ox_solo_safety::specs::Run::happens))]
+    pub fn happen(
+        self,
+        alloc: Global,
+        text: &mut Octets,
+        event: Event<Request>,
+    ) -> Result<World, NoMemory>
         requires there { IsTrue (is_of_one_node event) }
         requires encodable { IsTrue (asks_encodable event) }
         ensures { IfOk result (Follows self (happens shard_meaning self.blocks self.world (event_of event)) text.old text.new) }

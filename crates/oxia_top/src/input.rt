@@ -10,6 +10,9 @@ use thiserror::Error;
 /// The most bytes that are read.
 pub const INPUT_LIMIT: usize = 67_108_864;
 
+/// The bytes that one read asks for.
+const PIECE: usize = 4096;
+
 /// Why the input was not read to its end.
 #[derive(Clone, Copy, Debug, PartialEq, Eq, Error)]
 pub enum InputFault {
@@ -50,7 +53,7 @@ pub fn read_all<S: Source>(alloc: Global, source: &mut S) -> Result<Octets, Inpu
     ensures later { (S.stream source.old).faults ≤ (S.stream source.new).faults }
 {
     let mut bytes = Octets::new(alloc);
-    let mut piece = [0u8; 4096];
+    let mut piece = [0u8; PIECE];
     'pieces: while bytes.len() <= INPUT_LIMIT {
         let count = source.read(&mut piece)?;
         if count == 0 {

@@ -1,4 +1,4 @@
-use ox_schedule::Image;
+use ox_wire::Image;
 
 /// Whether a step may be cut, and inside which call of the disks, counted from 1.
 #[derive(Clone, Copy, Debug, PartialEq, Eq)]

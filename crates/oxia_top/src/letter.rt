@@ -1,24 +1,21 @@
 // Messages that were sent.
 ghost use Rattle.std.specs.Prelude.{◌≡◌, ◌++◌, ◌+◌, ◌∷◌, [], length, IfOk, OnOk};
 ghost use Rattle.std.specs.List.{flat_map};
-ghost use Rattle.ox_replica.specs.Inputs.{IsInput};
-ghost use Rattle.ox_replica.specs.declared.input.Input.TheVariants as input_is;
+ghost use Rattle.ox_solo_replica.specs.Inputs.{IsInput};
+ghost use Rattle.ox_solo_replica.specs.declared.input.Input.TheVariants as input_is;
 ghost use Rattle.ox_report.specs.Effect.{effect_line};
-ghost use Rattle.ox_safety.specs.Event.{Effect as effect};
-ghost use Rattle.ox_safety.specs.Run.{lead_body, messages_of, sent_effects};
+ghost use Rattle.ox_wire.specs.Effects.{Effect as effect};
+ghost use Rattle.ox_solo_safety.specs.Run.{lead_body, messages_of, sent_effects};
 ghost use Rattle.ox_types.specs.declared.peer.Peer.TheVariants as peer;
 ghost use Rattle.ox_wire.specs.declared.body.Body.TheVariants as body_is;
 ghost use Rattle.oxia_top.specs.Letters.{found_as, letter_at, messages_in};
 
 use ox_quorum::{Config, Ensemble};
-use ox_replica::{Input, Outgoing};
 use ox_report::add_sent;
-use ox_types::{CoordId, List, NoMemory, NodeId, Octets, Peer, Term};
+use ox_solo_replica::{Input, Outgoing};
+use ox_types::{CoordId, List, NoMemory, NodeId, Octets, Peer, TERM_LIMIT, Term};
 use ox_wire::Body;
 use std::alloc::Global;
-
-/// The latest term.
-const TERM_LIMIT: u64 = 9_007_199_254_740_992;
 
 /// A message that was sent: what is needed to deliver it again. Coordinator 0 sends to node 1, and node 1 to a coordinator.
 #[derive(Debug, Drop)]

@@ -14,6 +14,3 @@ mod wire;
 mod world;
 
 pub use top::oxia;
-
-#[cfg(test)]
-mod tests;

@@ -3,20 +3,20 @@
 // A disk in memory fails only where memory runs out, so each fault of the replica and of its log is answered by `NoMemory`.
 ghost use Rattle.std.specs.Prelude.{◌≡◌, ◌≢◌, ◌≤◌, ◌<◌, ◌++◌, ◌^◌, is_some, IfOk, OnOk};
 ghost use Rattle.ox_meaning.specs.Shard.{shard_meaning};
-ghost use Rattle.ox_replica.specs.Cutting.{cut_step};
-ghost use Rattle.ox_replica.specs.Due.{due_at};
-ghost use Rattle.ox_replica.specs.Inputs.{IsInput};
-ghost use Rattle.ox_replica.specs.Step.{output_of, replica_step};
-ghost use Rattle.ox_safety.specs.World.{opening_replica, reopened};
-ghost use Rattle.ox_safety.specs.declared.power.Power.TheVariants as power_is;
+ghost use Rattle.ox_solo_replica.specs.Cutting.{cut_step};
+ghost use Rattle.ox_solo_replica.specs.Due.{due_at};
+ghost use Rattle.ox_solo_replica.specs.Inputs.{IsInput};
+ghost use Rattle.ox_solo_replica.specs.Step.{output_of, replica_step};
+ghost use Rattle.ox_solo_safety.specs.World.{opening_replica, reopened};
+ghost use Rattle.ox_solo_safety.specs.declared.power.Power.TheVariants as power_is;
 ghost use Rattle.ox_types.specs.Durable.{blank, count_of, head_of};
 ghost use Rattle.oxia_top.specs.Node.{between, behind_cut, gone};
 
 use crate::letter::{become_leader, new_term};
 use ox_memory::MemoryDisk;
-use ox_replica::{Cut, Input, Output, Replica, law_either_order};
-use ox_safety::Power;
 use ox_shard::ShardMachine;
+use ox_solo_replica::{Cut, Input, Output, Replica, law_either_order};
+use ox_solo_safety::Power;
 use ox_types::{Entry, Head, List, LogView, NoMemory, NodeId, Term};
 use std::alloc::Global;
 use std::marker::Model;

@@ -7,11 +7,12 @@ ghost use Rattle.oxia_top.specs.Report.{report_of, numbered_line, blocks_of};
 ghost use Rattle.oxia_top.specs.Telling.{IsToldOf, AreToldOf};
 
 use crate::world::World;
-use itoa::Buffer;
 use ox_report::add_history;
-use ox_safety::law_in_step;
-use ox_schedule::{Event, First, Schedule, add_event, law_places};
+use ox_schedule::{First, Request, Schedule, add_event, law_places};
+use ox_solo_safety::law_in_step;
+use ox_text::add_number;
 use ox_types::{List, NoMemory, Octets};
+use ox_wire::Event;
 use std::alloc::Global;
 
 /// How many blocks a replica has where the first line doesn't say it.
@@ -32,12 +33,12 @@ fn add_event_line(
     alloc: Global,
     text: &mut Octets,
     number: u64,
-    event: &Event,
+    event: &Event<Request>,
 ) -> Result<(), NoMemory>
     ensures { OnOk result (text.new ≡ text.old ++ numbered_line number event.now) }
 {
     text.extend(b"@")?;
-    text.extend(Buffer::new().format(number).as_bytes())?;
+    add_number(text, number)?;
     text.extend(b" ")?;
     add_event(alloc, text, event)?;
     text.extend(b"\n")
@@ -49,7 +50,7 @@ fn tell_event(
     text: &mut Octets,
     world: World,
     number: u64,
-    event: Event,
+    event: Event<Request>,
 ) -> Result<World, NoMemory>
     requires there { IsTrue (is_of_one_node event) }
     requires encodable { IsTrue (asks_encodable event) }
@@ -64,7 +65,7 @@ fn tell_events(
     alloc: Global,
     text: &mut Octets,
     world: World,
-    events: List<Event>,
+    events: List<Event<Request>>,
 ) -> Result<World, NoMemory>
     requires there { list_all is_of_one_node events ≡ true }
     requires encodable { list_all asks_encodable events ≡ true }

@@ -2,17 +2,18 @@
 ghost use Rattle.std.specs.Prelude.{◌≡◌, ◌++◌, ◌+◌, ◌∷◌, [], length, map, IfOk, OnOk};
 ghost use Rattle.std.specs.List.{flat_map};
 ghost use Rattle.ox_report.specs.Effect.{effect_line};
-ghost use Rattle.ox_safety.specs.Event.{Effect as effect};
-ghost use Rattle.ox_safety.specs.Run.{answer_effects, kept_effects, messages_of, origin_of, sent_effects, whole_effects};
+ghost use Rattle.ox_wire.specs.Effects.{Effect as effect};
+ghost use Rattle.ox_wire.specs.Effects.{kept_effects};
+ghost use Rattle.ox_solo_safety.specs.Run.{answer_effects, messages_of, origin_of, sent_effects, whole_effects};
 ghost use Rattle.oxia_top.specs.Letters.{messages_in};
 ghost use Rattle.oxia_top.specs.Running.{knife_of};
 
 use crate::knife::Knife;
 use crate::letter::{Letter, send_all};
-use ox_replica::{Answered, Output};
 use ox_report::{add_answered, add_kept, add_was_cut, add_whole};
-use ox_safety::{Cause, Origin};
+use ox_solo_replica::{Answered, Output};
 use ox_types::{Entry, Head, KeptAs, List, NoMemory, Octets};
+use ox_wire::{Cause, Origin};
 use std::alloc::Global;
 
 /// Tells the answers to clients.

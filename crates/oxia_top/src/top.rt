@@ -8,8 +8,8 @@ use crate::output::write_all;
 use crate::report::report;
 use ox_meaning::law_shard_is_machine;
 use ox_outside::{Sink, Source};
-use ox_safety::law_legal;
 use ox_schedule::{ScheduleFault, law_encodable, law_places, read_schedule};
+use ox_solo_safety::law_legal;
 use ox_types::{Ended, List, Octets};
 use std::alloc::Global;
 

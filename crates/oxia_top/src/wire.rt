@@ -6,7 +6,7 @@ ghost use Rattle.oxia_top.specs.Events.{request_of};
 use ox_ops::{encode_command, encode_query};
 use ox_schedule::Request;
 use ox_types::{NoMemory, Octets, ShardId};
-use ox_wire::{Message, decode, encode};
+use ox_wire::{Message, Request as Asked, decode, encode};
 use std::alloc::Global;
 
 /// The most bytes that a message can carry: their length has four bytes.
@@ -34,25 +34,17 @@ fn carry(
     }
 }
 
-/// A request as a node is asked it.
-#[derive(Debug, Drop)]
-pub struct Carried {
-    pub write: bool,
-    /// The bytes of its command, or of its query where it is no write.
-    pub body: Octets,
-}
-
 /// The bytes of a request.
-fn encoded(alloc: Global, request: &Request) -> Result<Carried, NoMemory>
+fn encoded(alloc: Global, request: &Request) -> Result<Asked, NoMemory>
     requires { IsTrue (is_encodable request.now) }
-    ensures { IfOk result (λ c. record { write = c.write; body = c.body } ≡ request_of request.now) }
+    ensures { IfOk result (λ asked. asked ≡ request_of request.now) }
 {
     match request {
-        Request::Write { command, .. } => Ok(Carried {
+        Request::Write { command, .. } => Ok(Asked {
             write: true,
             body: encode_command(alloc, command)?,
         }),
-        Request::Read(query) => Ok(Carried {
+        Request::Read(query) => Ok(Asked {
             write: false,
             body: encode_query(alloc, query)?,
         }),
@@ -67,14 +59,14 @@ pub fn carry_request(
     arrival: u64,
     shard: u64,
     request: &Request,
-) -> Result<Carried, NoMemory>
+) -> Result<Asked, NoMemory>
     requires { IsTrue (is_encodable request.now) }
-    ensures { IfOk result (λ c. record { write = c.write; body = c.body } ≡ request_of request.now) }
+    ensures { IfOk result (λ asked. asked ≡ request_of request.now) }
 {
-    let Carried { write, body } = encoded(alloc, request)?;
+    let Asked { write, body } = encoded(alloc, request)?;
     if body.len() > MOST {
         return Err(NoMemory);
     }
     let body = carry(alloc, arrival, shard, write, body)?;
-    Ok(Carried { write, body })
+    Ok(Asked { write, body })
 }

@@ -2,18 +2,18 @@
 ghost use Rattle.std.specs.Prelude.{◌≡◌, ◌≢◌, ◌≤◌, ◌+◌, ◌++◌, ◌∷◌, [], length, OnOk, IfOk};
 ghost use Rattle.std.specs.List.{flat_map};
 ghost use Rattle.ox_meaning.specs.Shard.{shard_meaning};
-ghost use Rattle.ox_replica.specs.Cutting.{cut_step};
-ghost use Rattle.ox_replica.specs.Inputs.{IsInput};
-ghost use Rattle.ox_replica.specs.Step.{output_of, replica_step};
+ghost use Rattle.ox_solo_replica.specs.Cutting.{cut_step};
+ghost use Rattle.ox_solo_replica.specs.Inputs.{IsInput};
+ghost use Rattle.ox_solo_replica.specs.Step.{output_of, replica_step};
 ghost use Rattle.ox_report.specs.Effect.{effect_line};
-ghost use Rattle.ox_safety.specs.declared.power.Power.TheVariants as power_is;
-ghost use Rattle.ox_safety.specs.Event.{stands};
-ghost use Rattle.ox_safety.specs.Event.{Effect as effect};
-ghost use Rattle.ox_safety.specs.Run.{arrives, cause_at, grown, kept_effects, message_at, node_takes, starts};
-ghost use Rattle.ox_safety.specs.Run.{Knife as knife_is};
-ghost use Rattle.ox_safety.specs.World.{opening_world};
+ghost use Rattle.ox_solo_safety.specs.declared.power.Power.TheVariants as power_is;
+ghost use Rattle.ox_wire.specs.Events.{stands};
+ghost use Rattle.ox_wire.specs.Effects.{Effect as effect};
+ghost use Rattle.ox_wire.specs.Effects.{kept_effects};
+ghost use Rattle.ox_solo_safety.specs.Run.{arrives, cause_at, grown, message_at, node_takes, starts};
+ghost use Rattle.ox_solo_safety.specs.Run.{Knife as knife_is};
+ghost use Rattle.ox_solo_safety.specs.World.{opening_world};
 ghost use Rattle.ox_types.specs.Durable.{count_of};
-ghost use Rattle.oxia_top.specs.Events.{image_of};
 ghost use Rattle.oxia_top.specs.Node.{behind_cut, gone};
 ghost use Rattle.oxia_top.specs.Letters.{Finds, message_of};
 ghost use Rattle.oxia_top.specs.Running.{Follows, IsKnife, knife_of, node_in, noted, origins_from, settled, whole_seen, with_node};
@@ -22,11 +22,11 @@ use crate::knife::Knife;
 use crate::letter::{Found, Letter, find};
 use crate::node::Node;
 use crate::telling::{note_origins, tell_cut, tell_whole};
-use ox_replica::{Cut, Input, Output};
 use ox_report::add_opened;
-use ox_safety::{Cause, Origin, Power};
-use ox_schedule::Image;
+use ox_solo_replica::{Cut, Input, Output};
+use ox_solo_safety::Power;
 use ox_types::{Entry, Head, KeptAs, List, NoMemory, Octets};
+use ox_wire::{Cause, Image, Origin};
 use std::alloc::Global;
 use std::marker::Model;
 
@@ -94,7 +94,7 @@ fn note(
 
 /// Whether a gate that was written is found again. A torn write leaves ones, and a gate is one byte that is 1.
 fn is_kept(image: Image) -> bool
-    ensures { result ≡ stands (image_of image) }
+    ensures { result ≡ stands image }
 {
     match image {
         Image::Nothing => false,
@@ -318,7 +318,7 @@ impl World {
         requires up { self.world.power ≡ power_is.Up }
         requires input { IsInput input }
         requires counted { 1 ≤ call }
-        ensures { IfOk result (Follows self (node_takes shard_meaning self.blocks self.world shard (knife_is.At call (image_of image)) input) text.old text.new) }
+        ensures { IfOk result (Follows self (node_takes shard_meaning self.blocks self.world shard (knife_is.At call image) input) text.old text.new) }
     {
         let cause = self.cause(&input);
         let from = self.count();

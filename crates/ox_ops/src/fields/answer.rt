@@ -1,8 +1,7 @@
 // The bytes of what a read answers.
 use crate::answer::{Record, ShardAnswer};
-use crate::fields::OFFSET_LIMIT;
 use ox_bytes::{Field, FieldFault, Reader, Writer};
-use ox_types::NoMemory;
+use ox_types::{NoMemory, OFFSET_LIMIT};
 
 impl Field for Record {
     ghost use Rattle.ox_ops.specs.Forms.{record_form};
@@ -12,7 +11,7 @@ impl Field for Record {
 
     ghost exact = { record_form_exact };
 
-    #[tactic(auto, unfolding(crate::specs::Forms::record_form))]
+    #[tactic(auto, using(ox_bytes::specs::WritingLaws::fronts), unfolding(crate::specs::Forms::record_form))]
     fn put(&self, to: &mut Writer) -> Result<(), NoMemory> {
         to.put_key(&self.key)?;
         to.put_value(&self.value)?;
@@ -22,7 +21,7 @@ impl Field for Record {
     }
 
     #[tactic(auto, unfolding(crate::specs::Forms::record_form))]
-    fn take(from: &mut Reader<'_>) -> Result<Record, FieldFault> {
+    fn read(from: &mut Reader<'_>) -> Result<Record, FieldFault> {
         let key = from.take_key()?;
         let value = from.take_value()?;
         let meta = Field::take(from)?;
@@ -46,7 +45,7 @@ impl Field for ShardAnswer {
 
     ghost exact = { answer_exact };
 
-    #[tactic(auto, unfolding(crate::specs::Forms::answer))]
+    #[tactic(auto, using(ox_bytes::specs::WritingLaws::fronts), unfolding(crate::specs::Forms::answer))]
     fn put(&self, to: &mut Writer) -> Result<(), NoMemory> {
         match self {
             ShardAnswer::Got(found) => {
@@ -86,7 +85,7 @@ impl Field for ShardAnswer {
     }
 
     #[tactic(auto, unfolding(crate::specs::Forms::answer, ox_bytes::specs::Fields::choice_at))]
-    fn take(from: &mut Reader<'_>) -> Result<ShardAnswer, FieldFault> {
+    fn read(from: &mut Reader<'_>) -> Result<ShardAnswer, FieldFault> {
         match from.take_tag(7)? {
             0 => Ok(ShardAnswer::Got(Field::take(from)?)),
             1 => {

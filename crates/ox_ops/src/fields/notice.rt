@@ -1,8 +1,8 @@
 // The bytes of what a command changed.
-use crate::fields::{OFFSET_LIMIT, VERSION_LIMIT};
+use crate::fields::VERSION_LIMIT;
 use crate::notice::{Notice, NoticeItem};
 use ox_bytes::{Field, FieldFault, Reader, Writer};
-use ox_types::NoMemory;
+use ox_types::{NoMemory, OFFSET_LIMIT};
 
 impl Field for Notice {
     ghost use Rattle.ox_ops.specs.Forms.{notice};
@@ -12,7 +12,7 @@ impl Field for Notice {
 
     ghost exact = { notice_exact };
 
-    #[tactic(auto, unfolding(crate::specs::Forms::notice))]
+    #[tactic(auto, using(ox_bytes::specs::WritingLaws::fronts), unfolding(crate::specs::Forms::notice))]
     fn put(&self, to: &mut Writer) -> Result<(), NoMemory> {
         match self {
             Notice::Created { key, version } => {
@@ -39,7 +39,7 @@ impl Field for Notice {
     }
 
     #[tactic(auto, unfolding(crate::specs::Forms::notice, ox_bytes::specs::Fields::choice_at))]
-    fn take(from: &mut Reader<'_>) -> Result<Notice, FieldFault> {
+    fn read(from: &mut Reader<'_>) -> Result<Notice, FieldFault> {
         match from.take_tag(4)? {
             0 => {
                 let key = from.take_key()?;
@@ -71,14 +71,14 @@ impl Field for NoticeItem {
 
     ghost exact = { notice_item_exact };
 
-    #[tactic(auto, unfolding(crate::specs::Forms::notice_item))]
+    #[tactic(auto, using(ox_bytes::specs::WritingLaws::fronts), unfolding(crate::specs::Forms::notice_item))]
     fn put(&self, to: &mut Writer) -> Result<(), NoMemory> {
         to.put_u64(self.offset)?;
         self.notice.put(to)
     }
 
     #[tactic(auto, unfolding(crate::specs::Forms::notice_item))]
-    fn take(from: &mut Reader<'_>) -> Result<NoticeItem, FieldFault> {
+    fn read(from: &mut Reader<'_>) -> Result<NoticeItem, FieldFault> {
         let offset = from.take_u64_to(OFFSET_LIMIT)?;
         let notice = Field::take(from)?;
         Ok(NoticeItem { offset, notice })

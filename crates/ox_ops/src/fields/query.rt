@@ -12,7 +12,7 @@ impl Field for Compare {
 
     ghost exact = { compare_exact };
 
-    #[tactic(auto, unfolding(crate::specs::Forms::compare))]
+    #[tactic(auto, using(ox_bytes::specs::WritingLaws::fronts), unfolding(crate::specs::Forms::compare))]
     fn put(&self, to: &mut Writer) -> Result<(), NoMemory> {
         match self {
             Compare::Equal => to.put_u8(0),
@@ -24,7 +24,7 @@ impl Field for Compare {
     }
 
     #[tactic(auto, unfolding(crate::specs::Forms::compare, ox_bytes::specs::Fields::choice_at))]
-    fn take(from: &mut Reader<'_>) -> Result<Compare, FieldFault> {
+    fn read(from: &mut Reader<'_>) -> Result<Compare, FieldFault> {
         match from.take_tag(5)? {
             0 => Ok(Compare::Equal),
             1 => Ok(Compare::Floor),
@@ -43,7 +43,7 @@ impl Field for ShardQuery {
 
     ghost exact = { query_exact };
 
-    #[tactic(auto, unfolding(crate::specs::Forms::query))]
+    #[tactic(auto, using(ox_bytes::specs::WritingLaws::fronts), unfolding(crate::specs::Forms::query))]
     fn put(&self, to: &mut Writer) -> Result<(), NoMemory> {
         match self {
             ShardQuery::Get { compare, key, by } => {
@@ -78,7 +78,7 @@ impl Field for ShardQuery {
     }
 
     #[tactic(auto, unfolding(crate::specs::Forms::query, ox_bytes::specs::Fields::choice_at))]
-    fn take(from: &mut Reader<'_>) -> Result<ShardQuery, FieldFault> {
+    fn read(from: &mut Reader<'_>) -> Result<ShardQuery, FieldFault> {
         match from.take_tag(5)? {
             0 => {
                 let compare = Field::take(from)?;

@@ -1,8 +1,8 @@
 // The bytes of what a command answers.
-use crate::fields::{TIME_LIMIT, VERSION_LIMIT, put_version, take_version};
+use crate::fields::{VERSION_LIMIT, put_version, take_version};
 use crate::reply::{Meta, OpReply, ShardReply};
 use ox_bytes::{Field, FieldFault, Reader, Writer};
-use ox_types::NoMemory;
+use ox_types::{NoMemory, TIME_LIMIT};
 
 impl Field for Meta {
     ghost use Rattle.ox_ops.specs.Forms.{meta};
@@ -12,7 +12,7 @@ impl Field for Meta {
 
     ghost exact = { meta_exact };
 
-    #[tactic(auto, unfolding(crate::specs::Forms::meta))]
+    #[tactic(auto, using(ox_bytes::specs::WritingLaws::fronts), unfolding(crate::specs::Forms::meta))]
     fn put(&self, to: &mut Writer) -> Result<(), NoMemory> {
         to.put_u64(self.version)?;
         to.put_u64(self.modifications)?;
@@ -21,7 +21,7 @@ impl Field for Meta {
     }
 
     #[tactic(auto, unfolding(crate::specs::Forms::meta))]
-    fn take(from: &mut Reader<'_>) -> Result<Meta, FieldFault> {
+    fn read(from: &mut Reader<'_>) -> Result<Meta, FieldFault> {
         let version = from.take_u64_to(VERSION_LIMIT)?;
         let modifications = from.take_u64()?;
         let created = from.take_u64_to(TIME_LIMIT)?;
@@ -43,7 +43,7 @@ impl Field for OpReply {
 
     ghost exact = { op_reply_exact };
 
-    #[tactic(auto, unfolding(crate::specs::Forms::op_reply))]
+    #[tactic(auto, using(ox_bytes::specs::WritingLaws::fronts), unfolding(crate::specs::Forms::op_reply))]
     fn put(&self, to: &mut Writer) -> Result<(), NoMemory> {
         match self {
             OpReply::Put { key, meta } => {
@@ -93,7 +93,7 @@ impl Field for OpReply {
     }
 
     #[tactic(auto, unfolding(crate::specs::Forms::op_reply, ox_bytes::specs::Fields::choice_at))]
-    fn take(from: &mut Reader<'_>) -> Result<OpReply, FieldFault> {
+    fn read(from: &mut Reader<'_>) -> Result<OpReply, FieldFault> {
         match from.take_tag(10)? {
             0 => {
                 let key = from.take_key()?;
@@ -143,13 +143,13 @@ impl Field for ShardReply {
 
     ghost exact = { shard_reply_exact };
 
-    #[tactic(auto, unfolding(crate::specs::Forms::shard_reply))]
+    #[tactic(auto, using(ox_bytes::specs::WritingLaws::fronts), unfolding(crate::specs::Forms::shard_reply))]
     fn put(&self, to: &mut Writer) -> Result<(), NoMemory> {
         self.ops.put(to)
     }
 
     #[tactic(auto, unfolding(crate::specs::Forms::shard_reply))]
-    fn take(from: &mut Reader<'_>) -> Result<ShardReply, FieldFault> {
+    fn read(from: &mut Reader<'_>) -> Result<ShardReply, FieldFault> {
         let ops = Field::take(from)?;
         Ok(ShardReply { ops })
     }

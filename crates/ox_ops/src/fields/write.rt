@@ -12,7 +12,7 @@ impl Field for Expect {
 
     ghost exact = { expect_exact };
 
-    #[tactic(auto, unfolding(crate::specs::Forms::expect))]
+    #[tactic(auto, using(ox_bytes::specs::WritingLaws::fronts), unfolding(crate::specs::Forms::expect))]
     fn put(&self, to: &mut Writer) -> Result<(), NoMemory> {
         match self {
             Expect::Any => to.put_u8(0),
@@ -26,7 +26,7 @@ impl Field for Expect {
     }
 
     #[tactic(auto, unfolding(crate::specs::Forms::expect, ox_bytes::specs::Fields::choice_at))]
-    fn take(from: &mut Reader<'_>) -> Result<Expect, FieldFault> {
+    fn read(from: &mut Reader<'_>) -> Result<Expect, FieldFault> {
         match from.take_tag(3)? {
             0 => Ok(Expect::Any),
             1 => Ok(Expect::Absent),
@@ -43,14 +43,14 @@ impl Field for IndexEntry {
 
     ghost exact = { index_entry_exact };
 
-    #[tactic(auto, unfolding(crate::specs::Forms::index_entry))]
+    #[tactic(auto, using(ox_bytes::specs::WritingLaws::fronts), unfolding(crate::specs::Forms::index_entry))]
     fn put(&self, to: &mut Writer) -> Result<(), NoMemory> {
         to.put_octets(&self.name)?;
         to.put_key(&self.key)
     }
 
     #[tactic(auto, unfolding(crate::specs::Forms::index_entry))]
-    fn take(from: &mut Reader<'_>) -> Result<IndexEntry, FieldFault> {
+    fn read(from: &mut Reader<'_>) -> Result<IndexEntry, FieldFault> {
         let name = take_name(from)?;
         let key = from.take_key()?;
         Ok(IndexEntry { name, key })
@@ -65,7 +65,7 @@ impl Field for Put {
 
     ghost exact = { put_exact };
 
-    #[tactic(auto, unfolding(crate::specs::Forms::put))]
+    #[tactic(auto, using(ox_bytes::specs::WritingLaws::fronts), unfolding(crate::specs::Forms::put))]
     fn put(&self, to: &mut Writer) -> Result<(), NoMemory> {
         to.put_key(&self.key)?;
         to.put_value(&self.value)?;
@@ -76,7 +76,7 @@ impl Field for Put {
     }
 
     #[tactic(auto, unfolding(crate::specs::Forms::put))]
-    fn take(from: &mut Reader<'_>) -> Result<Put, FieldFault> {
+    fn read(from: &mut Reader<'_>) -> Result<Put, FieldFault> {
         let key = from.take_key()?;
         let value = from.take_value()?;
         let expect = Field::take(from)?;
@@ -102,14 +102,14 @@ impl Field for Delete {
 
     ghost exact = { delete_exact };
 
-    #[tactic(auto, unfolding(crate::specs::Forms::delete))]
+    #[tactic(auto, using(ox_bytes::specs::WritingLaws::fronts), unfolding(crate::specs::Forms::delete))]
     fn put(&self, to: &mut Writer) -> Result<(), NoMemory> {
         to.put_key(&self.key)?;
         self.expect.put(to)
     }
 
     #[tactic(auto, unfolding(crate::specs::Forms::delete))]
-    fn take(from: &mut Reader<'_>) -> Result<Delete, FieldFault> {
+    fn read(from: &mut Reader<'_>) -> Result<Delete, FieldFault> {
         let key = from.take_key()?;
         let expect = Field::take(from)?;
         Ok(Delete { key, expect })
@@ -124,7 +124,7 @@ impl Field for WriteBatch {
 
     ghost exact = { write_batch_exact };
 
-    #[tactic(auto, unfolding(crate::specs::Forms::write_batch))]
+    #[tactic(auto, using(ox_bytes::specs::WritingLaws::fronts), unfolding(crate::specs::Forms::write_batch))]
     fn put(&self, to: &mut Writer) -> Result<(), NoMemory> {
         self.puts.put(to)?;
         self.deletes.put(to)?;
@@ -132,7 +132,7 @@ impl Field for WriteBatch {
     }
 
     #[tactic(auto, unfolding(crate::specs::Forms::write_batch))]
-    fn take(from: &mut Reader<'_>) -> Result<WriteBatch, FieldFault> {
+    fn read(from: &mut Reader<'_>) -> Result<WriteBatch, FieldFault> {
         let puts = Field::take(from)?;
         let deletes = Field::take(from)?;
         let ranges = Field::take(from)?;
@@ -152,7 +152,7 @@ impl Field for ShardCommand {
 
     ghost exact = { command_exact };
 
-    #[tactic(auto, unfolding(crate::specs::Forms::command))]
+    #[tactic(auto, using(ox_bytes::specs::WritingLaws::fronts), unfolding(crate::specs::Forms::command))]
     fn put(&self, to: &mut Writer) -> Result<(), NoMemory> {
         match self {
             ShardCommand::Write(batch) => {
@@ -177,7 +177,7 @@ impl Field for ShardCommand {
     }
 
     #[tactic(auto, unfolding(crate::specs::Forms::command, ox_bytes::specs::Fields::choice_at))]
-    fn take(from: &mut Reader<'_>) -> Result<ShardCommand, FieldFault> {
+    fn read(from: &mut Reader<'_>) -> Result<ShardCommand, FieldFault> {
         match from.take_tag(4)? {
             0 => Ok(ShardCommand::Write(Field::take(from)?)),
             1 => {

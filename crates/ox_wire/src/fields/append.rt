@@ -1,7 +1,9 @@
 // The bytes of the entries of an Append.
-ghost use Rattle.std.specs.Prelude.{◌≡◌, ◌<◌, ◌≤◌, ◌+◌, ◌==◌, ◌++◌, nat_le, IsTrue, IfOk, OnOk};
+ghost use Rattle.std.specs.Prelude.{◌≡◌, ◌<◌, ◌≤◌, ◌+◌, ◌==◌, nat_le, IsTrue, IfOk};
+ghost use Rattle.ox_types.specs.Limits.{offset_limit};
 ghost use Rattle.ox_bytes.specs.declared.fault.WireRule.TheVariants.{Range, Order};
 ghost use Rattle.ox_bytes.specs.Reading.{Gives};
+ghost use Rattle.ox_bytes.specs.Writing.{Puts};
 ghost use Rattle.ox_bytes.specs.Form.{checked};
 ghost use Rattle.ox_bytes.specs.LogForms.{term as term_form, entry_offset};
 ghost use Rattle.ox_wire.specs.BodyForms.{entry_behind, entries_number, entries_from};
@@ -28,7 +30,7 @@ fn take_term(from: &mut Reader<'_>, top: u64, least: u64) -> Result<Term, FieldF
 
 /// The offset of an entry: this one, or else out of order.
 fn take_offset(from: &mut Reader<'_>, next: u64) -> Result<u64, FieldFault>
-    ensures small { IfOk result (λ offset. offset ≤ 9007199254740991) }
+    ensures small { IfOk result (λ offset. offset ≤ offset_limit) }
     ensures read { Gives result from.new ((checked (λ o. o == next) Order entry_offset).at from.old) }
 {
     let order = from.bad(WireRule::Order);
@@ -42,7 +44,7 @@ fn take_offset(from: &mut Reader<'_>, next: u64) -> Result<u64, FieldFault>
 /// An entry behind one of the term `next.0`, with the offset `next.1`.
 #[tactic(auto, unfolding(crate::specs::BodyForms::entry_behind))]
 fn take_entry(from: &mut Reader<'_>, top: u64, next: (u64, u64)) -> Result<Entry, FieldFault>
-    ensures small { IfOk result (λ entry. entry.offset ≤ 9007199254740991) }
+    ensures small { IfOk result (λ entry. entry.offset ≤ offset_limit) }
     ensures read { Gives result from.new ((entry_behind top next).at from.old) }
 {
     let term = take_term(from, top, next.0)?;
@@ -59,7 +61,7 @@ fn take_entry(from: &mut Reader<'_>, top: u64, next: (u64, u64)) -> Result<Entry
 
 /// The least term and the offset of an entry behind this one.
 fn past(entry: &Entry) -> (u64, u64)
-    requires { entry.now.offset ≤ 9007199254740991 }
+    requires { entry.now.offset ≤ offset_limit }
     ensures { result ≡ (entry.now.term, entry.now.offset + 1) }
 {
     (entry.term.0, entry.offset + 1)
@@ -99,6 +101,7 @@ pub(crate) fn take_entries(
 }
 
 /// Their number, and the entries.
+#[tactic(auto, using(ox_bytes::specs::WritingLaws::fronts))]
 pub(crate) fn put_entries(
     entries: &List<Entry>,
     top: Term,
@@ -106,7 +109,7 @@ pub(crate) fn put_entries(
     to: &mut Writer,
 ) -> Result<(), NoMemory>
     requires { IsTrue ((entries_from top offset).is_lawful entries.now) }
-    ensures { OnOk result (to.new ≡ to.old ++ (entries_from top offset).text entries.now) }
+    ensures { Puts result to.old to.new ((entries_from top offset).text entries.now) }
 {
     entries.put(to)
 }

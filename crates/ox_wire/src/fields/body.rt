@@ -1,6 +1,7 @@
 // The bytes of what replicas and coordinators say to one another.
-ghost use Rattle.std.specs.Prelude.{◌≡◌, ◌∷◌, ◌++◌, IsTrue, OnOk};
+ghost use Rattle.std.specs.Prelude.{◌≡◌, ◌∷◌, ◌++◌, IsTrue};
 ghost use Rattle.ox_bytes.specs.Reading.{Gives};
+ghost use Rattle.ox_bytes.specs.Writing.{Puts};
 ghost use Rattle.ox_bytes.specs.Numbers.{be64};
 ghost use Rattle.ox_wire.specs.declared.body.Body.TheVariants as body_is;
 ghost use Rattle.ox_wire.specs.BodyForms.{body as body_form, as_new_term, as_become_leader, as_add_follower, as_fenced, as_ready, as_refused, as_truncate, as_append, as_snapshot, as_ack, as_want};
@@ -20,7 +21,7 @@ impl Field for Asked {
 
     ghost exact = { asked_exact };
 
-    #[tactic(auto, unfolding(crate::specs::BodyForms::asked))]
+    #[tactic(auto, using(ox_bytes::specs::WritingLaws::fronts), unfolding(crate::specs::BodyForms::asked))]
     fn put(&self, to: &mut Writer) -> Result<(), NoMemory> {
         match self {
             Asked::NewTerm => to.put_u8(0),
@@ -30,7 +31,7 @@ impl Field for Asked {
     }
 
     #[tactic(auto, unfolding(crate::specs::BodyForms::asked, ox_bytes::specs::Fields::choice_at))]
-    fn take(from: &mut Reader<'_>) -> Result<Asked, FieldFault> {
+    fn read(from: &mut Reader<'_>) -> Result<Asked, FieldFault> {
         match from.take_tag(3)? {
             0 => Ok(Asked::NewTerm),
             1 => Ok(Asked::BecomeLeader),
@@ -40,15 +41,16 @@ impl Field for Asked {
 }
 
 /// The byte of a kind of message, and its term.
+#[tactic(auto, using(ox_bytes::specs::WritingLaws::fronts))]
 fn put_front(kind: u8, term: Term, to: &mut Writer) -> Result<(), NoMemory>
-    ensures { OnOk result (to.new ≡ to.old ++ (kind ∷ be64 term)) }
+    ensures { Puts result to.old to.new (kind ∷ be64 term) }
 {
     to.put_u8(kind)?;
     to.put_u64(term.0)?;
     Ok(())
 }
 
-#[tactic(auto, unfolding(crate::specs::BodyForms::body))]
+#[tactic(auto, using(ox_bytes::specs::WritingLaws::fronts), unfolding(crate::specs::BodyForms::body))]
 fn put_become_leader(
     term: Term,
     config: &Config,
@@ -56,7 +58,7 @@ fn put_become_leader(
     to: &mut Writer,
 ) -> Result<(), NoMemory>
     requires { IsTrue (body_form.is_lawful (body_is.BecomeLeader term config.now followers.now)) }
-    ensures { OnOk result (to.new ≡ to.old ++ body_form.text (body_is.BecomeLeader term config.now followers.now)) }
+    ensures { Puts result to.old to.new (body_form.text (body_is.BecomeLeader term config.now followers.now)) }
 {
     put_front(1, term, to)?;
     config.put(to)?;
@@ -64,30 +66,30 @@ fn put_become_leader(
     Ok(())
 }
 
-#[tactic(auto, unfolding(crate::specs::BodyForms::body))]
+#[tactic(auto, using(ox_bytes::specs::WritingLaws::fronts), unfolding(crate::specs::BodyForms::body))]
 fn put_add_follower(term: Term, follower: &Follower, to: &mut Writer) -> Result<(), NoMemory>
     requires { IsTrue (body_form.is_lawful (body_is.AddFollower term follower.now)) }
-    ensures { OnOk result (to.new ≡ to.old ++ body_form.text (body_is.AddFollower term follower.now)) }
+    ensures { Puts result to.old to.new (body_form.text (body_is.AddFollower term follower.now)) }
 {
     put_front(2, term, to)?;
     follower.put(to)?;
     Ok(())
 }
 
-#[tactic(auto, unfolding(crate::specs::BodyForms::body))]
+#[tactic(auto, using(ox_bytes::specs::WritingLaws::fronts), unfolding(crate::specs::BodyForms::body))]
 fn put_fenced(term: Term, table: &TermTable, to: &mut Writer) -> Result<(), NoMemory>
     requires { IsTrue (body_form.is_lawful (body_is.Fenced term table.now)) }
-    ensures { OnOk result (to.new ≡ to.old ++ body_form.text (body_is.Fenced term table.now)) }
+    ensures { Puts result to.old to.new (body_form.text (body_is.Fenced term table.now)) }
 {
     put_front(3, term, to)?;
     table.put(to)?;
     Ok(())
 }
 
-#[tactic(auto, unfolding(crate::specs::BodyForms::body))]
+#[tactic(auto, using(ox_bytes::specs::WritingLaws::fronts), unfolding(crate::specs::BodyForms::body))]
 fn put_refused(asked: Asked, term: Term, refusal: &Refusal, to: &mut Writer) -> Result<(), NoMemory>
     requires { IsTrue (body_form.is_lawful (body_is.Refused asked term refusal.now)) }
-    ensures { OnOk result (to.new ≡ to.old ++ body_form.text (body_is.Refused asked term refusal.now)) }
+    ensures { Puts result to.old to.new (body_form.text (body_is.Refused asked term refusal.now)) }
 {
     to.put_u8(5)?;
     asked.put(to)?;
@@ -96,7 +98,7 @@ fn put_refused(asked: Asked, term: Term, refusal: &Refusal, to: &mut Writer) -> 
     Ok(())
 }
 
-#[tactic(auto, unfolding(crate::specs::BodyForms::body, crate::specs::BodyForms::append))]
+#[tactic(auto, using(ox_bytes::specs::WritingLaws::fronts), unfolding(crate::specs::BodyForms::body, crate::specs::BodyForms::append))]
 fn put_append(
     term: Term,
     offset: u64,
@@ -105,7 +107,7 @@ fn put_append(
     to: &mut Writer,
 ) -> Result<(), NoMemory>
     requires { IsTrue (body_form.is_lawful (body_is.Append term offset commit entries.now)) }
-    ensures { OnOk result (to.new ≡ to.old ++ body_form.text (body_is.Append term offset commit entries.now)) }
+    ensures { Puts result to.old to.new (body_form.text (body_is.Append term offset commit entries.now)) }
 {
     put_front(7, term, to)?;
     to.put_u64(offset)?;
@@ -114,10 +116,10 @@ fn put_append(
     Ok(())
 }
 
-#[tactic(auto, unfolding(crate::specs::BodyForms::body))]
+#[tactic(auto, using(ox_bytes::specs::WritingLaws::fronts), unfolding(crate::specs::BodyForms::body))]
 fn put_snapshot(chunk: &Chunk, to: &mut Writer) -> Result<(), NoMemory>
     requires { IsTrue (body_form.is_lawful (body_is.Snapshot chunk.now)) }
-    ensures { OnOk result (to.new ≡ to.old ++ body_form.text (body_is.Snapshot chunk.now)) }
+    ensures { Puts result to.old to.new (body_form.text (body_is.Snapshot chunk.now)) }
 {
     to.put_u8(8)?;
     chunk.put(to)?;
@@ -125,18 +127,19 @@ fn put_snapshot(chunk: &Chunk, to: &mut Writer) -> Result<(), NoMemory>
 }
 
 /// A message of this kind that says a term and a number of entries.
+#[tactic(auto, using(ox_bytes::specs::WritingLaws::fronts))]
 fn put_count(kind: u8, term: Term, count: u64, to: &mut Writer) -> Result<(), NoMemory>
-    ensures { OnOk result (to.new ≡ to.old ++ (kind ∷ be64 term ++ be64 count)) }
+    ensures { Puts result to.old to.new (kind ∷ be64 term ++ be64 count) }
 {
     put_front(kind, term, to)?;
     to.put_u64(count)?;
     Ok(())
 }
 
-#[tactic(auto, unfolding(crate::specs::BodyForms::body))]
+#[tactic(auto, using(ox_bytes::specs::WritingLaws::fronts), unfolding(crate::specs::BodyForms::body))]
 fn put_want(term: Term, head: &Head, next: u32, to: &mut Writer) -> Result<(), NoMemory>
     requires { IsTrue (body_form.is_lawful (body_is.Want term head.now next)) }
-    ensures { OnOk result (to.new ≡ to.old ++ body_form.text (body_is.Want term head.now next)) }
+    ensures { Puts result to.old to.new (body_form.text (body_is.Want term head.now next)) }
 {
     put_front(10, term, to)?;
     head.put(to)?;
@@ -256,6 +259,7 @@ impl Field for Body {
 
     ghost exact = { body_exact };
 
+    #[tactic(auto, using(ox_bytes::specs::WritingLaws::fronts))]
     fn put(&self, to: &mut Writer) -> Result<(), NoMemory> {
         match self {
             Body::NewTerm { term } => put_front(0, *term, to),
@@ -286,7 +290,7 @@ impl Field for Body {
     }
 
     #[tactic(auto, unfolding(crate::specs::BodyForms::body, ox_bytes::specs::Fields::choice_at))]
-    fn take(from: &mut Reader<'_>) -> Result<Body, FieldFault> {
+    fn read(from: &mut Reader<'_>) -> Result<Body, FieldFault> {
         match from.take_tag(11)? {
             0 => take_new_term(from),
             1 => take_become_leader(from),

@@ -1,6 +1,7 @@
 // The bytes of followers, whose ids rise in a list.
-ghost use Rattle.std.specs.Prelude.{◌≡◌, ◌<◌, ◌+◌, ◌^◌, ◌++◌, IsTrue, IfOk, OnOk};
+ghost use Rattle.std.specs.Prelude.{◌≡◌, ◌<◌, ◌+◌, IsTrue, IfOk};
 ghost use Rattle.ox_bytes.specs.Reading.{Gives};
+ghost use Rattle.ox_bytes.specs.Writing.{Puts};
 ghost use Rattle.ox_bytes.specs.Form.{checked};
 ghost use Rattle.ox_quorum.specs.Forms.{node_from};
 ghost use Rattle.ox_wire.specs.BodyForms.{follower_from, followers as followers_form};
@@ -17,14 +18,14 @@ impl Field for Follower {
 
     ghost exact = { follower_exact };
 
-    #[tactic(auto, unfolding(crate::specs::BodyForms::follower))]
+    #[tactic(auto, using(ox_bytes::specs::WritingLaws::fronts), unfolding(crate::specs::BodyForms::follower))]
     fn put(&self, to: &mut Writer) -> Result<(), NoMemory> {
         to.put_u32(self.node.0)?;
         self.table.put(to)
     }
 
     #[tactic(auto, unfolding(crate::specs::BodyForms::follower))]
-    fn take(from: &mut Reader<'_>) -> Result<Follower, FieldFault> {
+    fn read(from: &mut Reader<'_>) -> Result<Follower, FieldFault> {
         let node = NodeId(from.take_u32()?);
         let table = Field::take(from)?;
         Ok(Follower { node, table })
@@ -78,9 +79,10 @@ pub(crate) fn take_followers(from: &mut Reader<'_>) -> Result<List<Follower>, Fi
 }
 
 /// Their number, and the followers.
+#[tactic(auto, using(ox_bytes::specs::WritingLaws::fronts))]
 pub(crate) fn put_followers(followers: &List<Follower>, to: &mut Writer) -> Result<(), NoMemory>
     requires { IsTrue (followers_form.is_lawful followers.now) }
-    ensures { OnOk result (to.new ≡ to.old ++ followers_form.text followers.now) }
+    ensures { Puts result to.old to.new (followers_form.text followers.now) }
 {
     followers.put(to)
 }

@@ -1,6 +1,7 @@
 // The bytes of whole messages.
-ghost use Rattle.std.specs.Prelude.{◌≡◌, ◌++◌, IsTrue, OnOk};
+ghost use Rattle.std.specs.Prelude.{◌≡◌, IsTrue};
 ghost use Rattle.ox_bytes.specs.Reading.{Gives};
+ghost use Rattle.ox_bytes.specs.Writing.{Puts};
 ghost use Rattle.ox_wire.specs.declared.message.Message.TheVariants as message_is;
 ghost use Rattle.ox_wire.specs.MessageForms.{message as message_form, as_peer, as_request, as_reply, as_swap, as_swap_reply};
 
@@ -10,7 +11,7 @@ use crate::swap::SwapOutcome;
 use ox_bytes::{Field, FieldFault, Reader, Writer};
 use ox_types::{NoMemory, NodeId, Octets, Peer, ShardId};
 
-#[tactic(auto, unfolding(crate::specs::MessageForms::message))]
+#[tactic(auto, using(ox_bytes::specs::WritingLaws::fronts), unfolding(crate::specs::MessageForms::message))]
 fn put_peer(
     from: &Peer,
     receiver: &Peer,
@@ -19,7 +20,7 @@ fn put_peer(
     to: &mut Writer,
 ) -> Result<(), NoMemory>
     requires { IsTrue (message_form.is_lawful (message_is.Peer from.now receiver.now shard body.now)) }
-    ensures { OnOk result (to.new ≡ to.old ++ message_form.text (message_is.Peer from.now receiver.now shard body.now)) }
+    ensures { Puts result to.old to.new (message_form.text (message_is.Peer from.now receiver.now shard body.now)) }
 {
     to.put_u8(0)?;
     from.put(to)?;
@@ -29,7 +30,7 @@ fn put_peer(
     Ok(())
 }
 
-#[tactic(auto, unfolding(crate::specs::MessageForms::message))]
+#[tactic(auto, using(ox_bytes::specs::WritingLaws::fronts), unfolding(crate::specs::MessageForms::message))]
 fn put_request(
     number: u64,
     shard: ShardId,
@@ -38,7 +39,7 @@ fn put_request(
     to: &mut Writer,
 ) -> Result<(), NoMemory>
     requires { IsTrue (message_form.is_lawful (message_is.Request number shard write body.now)) }
-    ensures { OnOk result (to.new ≡ to.old ++ message_form.text (message_is.Request number shard write body.now)) }
+    ensures { Puts result to.old to.new (message_form.text (message_is.Request number shard write body.now)) }
 {
     to.put_u8(1)?;
     to.put_u64(number)?;
@@ -48,10 +49,10 @@ fn put_request(
     Ok(())
 }
 
-#[tactic(auto, unfolding(crate::specs::MessageForms::message))]
+#[tactic(auto, using(ox_bytes::specs::WritingLaws::fronts), unfolding(crate::specs::MessageForms::message))]
 fn put_reply(number: u64, outcome: &Outcome, to: &mut Writer) -> Result<(), NoMemory>
     requires { IsTrue (message_form.is_lawful (message_is.Reply number outcome.now)) }
-    ensures { OnOk result (to.new ≡ to.old ++ message_form.text (message_is.Reply number outcome.now)) }
+    ensures { Puts result to.old to.new (message_form.text (message_is.Reply number outcome.now)) }
 {
     to.put_u8(2)?;
     to.put_u64(number)?;
@@ -59,7 +60,7 @@ fn put_reply(number: u64, outcome: &Outcome, to: &mut Writer) -> Result<(), NoMe
     Ok(())
 }
 
-#[tactic(auto, unfolding(crate::specs::MessageForms::message))]
+#[tactic(auto, using(ox_bytes::specs::WritingLaws::fronts), unfolding(crate::specs::MessageForms::message))]
 fn put_swap(
     number: u64,
     shard: ShardId,
@@ -67,7 +68,7 @@ fn put_swap(
     enter: NodeId,
     to: &mut Writer,
 ) -> Result<(), NoMemory>
-    ensures { OnOk result (to.new ≡ to.old ++ message_form.text (message_is.Swap number shard out enter)) }
+    ensures { Puts result to.old to.new (message_form.text (message_is.Swap number shard out enter)) }
 {
     to.put_u8(3)?;
     to.put_u64(number)?;
@@ -77,10 +78,10 @@ fn put_swap(
     Ok(())
 }
 
-#[tactic(auto, unfolding(crate::specs::MessageForms::message))]
+#[tactic(auto, using(ox_bytes::specs::WritingLaws::fronts), unfolding(crate::specs::MessageForms::message))]
 fn put_swap_reply(number: u64, outcome: &SwapOutcome, to: &mut Writer) -> Result<(), NoMemory>
     requires { IsTrue (message_form.is_lawful (message_is.SwapReply number outcome.now)) }
-    ensures { OnOk result (to.new ≡ to.old ++ message_form.text (message_is.SwapReply number outcome.now)) }
+    ensures { Puts result to.old to.new (message_form.text (message_is.SwapReply number outcome.now)) }
 {
     to.put_u8(4)?;
     to.put_u64(number)?;
@@ -157,6 +158,7 @@ impl Field for Message {
 
     ghost exact = { message_exact };
 
+    #[tactic(auto, using(ox_bytes::specs::WritingLaws::fronts))]
     fn put(&self, to: &mut Writer) -> Result<(), NoMemory> {
         match self {
             Message::Peer {
@@ -183,7 +185,7 @@ impl Field for Message {
     }
 
     #[tactic(auto, unfolding(crate::specs::MessageForms::message, ox_bytes::specs::Fields::choice_at))]
-    fn take(from: &mut Reader<'_>) -> Result<Message, FieldFault> {
+    fn read(from: &mut Reader<'_>) -> Result<Message, FieldFault> {
         match from.take_tag(5)? {
             0 => take_peer(from),
             1 => take_request(from),

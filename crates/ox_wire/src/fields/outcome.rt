@@ -11,7 +11,7 @@ impl Field for Outcome {
 
     ghost exact = { outcome_exact };
 
-    #[tactic(auto, unfolding(crate::specs::MessageForms::outcome))]
+    #[tactic(auto, using(ox_bytes::specs::WritingLaws::fronts), unfolding(crate::specs::MessageForms::outcome))]
     fn put(&self, to: &mut Writer) -> Result<(), NoMemory> {
         match self {
             Outcome::Ack {
@@ -43,7 +43,7 @@ impl Field for Outcome {
     }
 
     #[tactic(auto, unfolding(crate::specs::MessageForms::outcome, ox_bytes::specs::Fields::choice_at))]
-    fn take(from: &mut Reader<'_>) -> Result<Outcome, FieldFault> {
+    fn read(from: &mut Reader<'_>) -> Result<Outcome, FieldFault> {
         match from.take_tag(3)? {
             0 => {
                 let term = Field::take(from)?;

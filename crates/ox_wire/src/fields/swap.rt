@@ -1,14 +1,16 @@
 // The bytes of what a coordinator answers to a swap.
-ghost use Rattle.std.specs.Prelude.{◌≡◌, ◌∷◌, ◌++◌, OnOk};
+ghost use Rattle.std.specs.Prelude.{◌≡◌, ◌∷◌};
 ghost use Rattle.ox_bytes.specs.Numbers.{be32};
+ghost use Rattle.ox_bytes.specs.Writing.{Puts};
 
 use crate::swap::{SwapOutcome, SwapRefused};
 use ox_bytes::{Field, FieldFault, Reader, Writer};
 use ox_types::{NoMemory, NodeId};
 
 /// The byte of a refusal, and the node that it names.
+#[tactic(auto, using(ox_bytes::specs::WritingLaws::fronts))]
 fn put_node(kind: u8, node: NodeId, to: &mut Writer) -> Result<(), NoMemory>
-    ensures { OnOk result (to.new ≡ to.old ++ (kind ∷ be32 node)) }
+    ensures { Puts result to.old to.new (kind ∷ be32 node) }
 {
     to.put_u8(kind)?;
     to.put_u32(node.0)?;
@@ -23,7 +25,7 @@ impl Field for SwapRefused {
 
     ghost exact = { swap_refused_exact };
 
-    #[tactic(auto, unfolding(crate::specs::MessageForms::swap_refused))]
+    #[tactic(auto, using(ox_bytes::specs::WritingLaws::fronts), unfolding(crate::specs::MessageForms::swap_refused))]
     fn put(&self, to: &mut Writer) -> Result<(), NoMemory> {
         match self {
             SwapRefused::UnknownShard => to.put_u8(0),
@@ -44,7 +46,7 @@ impl Field for SwapRefused {
     }
 
     #[tactic(auto, unfolding(crate::specs::MessageForms::swap_refused, ox_bytes::specs::Fields::choice_at))]
-    fn take(from: &mut Reader<'_>) -> Result<SwapRefused, FieldFault> {
+    fn read(from: &mut Reader<'_>) -> Result<SwapRefused, FieldFault> {
         match from.take_tag(6)? {
             0 => Ok(SwapRefused::UnknownShard),
             1 => {
@@ -80,7 +82,7 @@ impl Field for SwapOutcome {
 
     ghost exact = { swap_outcome_exact };
 
-    #[tactic(auto, unfolding(crate::specs::MessageForms::swap_outcome))]
+    #[tactic(auto, using(ox_bytes::specs::WritingLaws::fronts), unfolding(crate::specs::MessageForms::swap_outcome))]
     fn put(&self, to: &mut Writer) -> Result<(), NoMemory> {
         match self {
             SwapOutcome::Begun { term } => {
@@ -95,7 +97,7 @@ impl Field for SwapOutcome {
     }
 
     #[tactic(auto, unfolding(crate::specs::MessageForms::swap_outcome, ox_bytes::specs::Fields::choice_at))]
-    fn take(from: &mut Reader<'_>) -> Result<SwapOutcome, FieldFault> {
+    fn read(from: &mut Reader<'_>) -> Result<SwapOutcome, FieldFault> {
         match from.take_tag(2)? {
             0 => {
                 let term = Field::take(from)?;

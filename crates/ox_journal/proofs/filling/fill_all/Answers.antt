@@ -3,6 +3,7 @@ use Rattle.ox_journal.specs.Filling.{Gathers}
 use Rattle.ox_journal.specs.Half.{Shut}
 use Rattle.ox_journal.proofs.Steps.{continued}
 use Rattle.ox_journal.proofs.Fill.{taken_on}
+use Rattle.ox_journal.proofs.Calling.{piece_long, pieces_rest, pieces_calls}
 use Rattle.ox_journal.proofs.filling.fill_all.Goals as goal
 
 pub returns-in_err-fill_once-clause-any_moment : goal.returns-in_err-fill_once-clause-any_moment
@@ -19,6 +20,8 @@ loop-at-preserved g c =
       small = c.fill_once.ensures.small;
       gathered = c.fill_once.ensures.gathered;
       room = c.fill_once.ensures.room;
+      pending = c.in_ok-fill_once.ensures.pending ∙ pieces_rest _ _ _ _ _ inv.pending (piece_long bytes c.loop-at.at c.next_end-end.result c.next_end-end.ensures.within c.next_end-end.ensures.later);
+      calls = λ told. pieces_calls _ _ _ _ _ _ _ _ inv.pending (piece_long bytes c.loop-at.at c.next_end-end.result c.next_end-end.ensures.within c.next_end-end.ensures.later) (inv.calls told) (c.in_ok-fill_once.ensures.calls told);
       told = λ told. let some = inv.told told in (some.0 ++ take (c.next_end-end.result - c.loop-at.at) (drop c.loop-at.at bytes), c.in_ok-fill_once.ensures.done some.0 told some.1);
       done = λ text told gathers. subst (λ (t : List ℕ). Gathers (g.D.Disk.shows c.fill_once.new.disk) c.fill_once.new.filled c.fill_once.new.buffer.items t)
           (append_assoc text (take c.loop-at.at bytes) (take (c.next_end-end.result - c.loop-at.at) (drop c.loop-at.at bytes))

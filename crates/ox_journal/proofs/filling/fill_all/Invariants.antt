@@ -1,5 +1,7 @@
-use Rattle.std.proofs.Common.{length, take, ◌-◌, ◌<◌, ◌≤◌, ◌^◌, [], ◌++◌, ℕ, List, vec_capacity}
+use Rattle.std.proofs.Common.{◌≡◌, ◌+◌, ◌%◌, length, take, ◌-◌, ◌<◌, ◌≤◌, ◌^◌, [], ◌++◌, ℕ, List, vec_capacity}
+use Rattle.std.specs.Prelude.{◌/◌}
 use Rattle.ox_outside.specs.Disk.{LeavesOnly}
+use Rattle.ox_journal.specs.Calls.{Calls}
 use Rattle.ox_journal.specs.Filling.{Gathers}
 use Rattle.ox_journal.specs.Half.{Shut}
 use Rattle.ox_journal.specs.Pair.{IsAside}
@@ -11,6 +13,8 @@ invariant-loop-at g l = record {
   small : l.filled < 2 ^ 63;
   gathered : length l.buffer.items < 1048576;
   room : 5242885 ≤ vec_capacity l.buffer;
+  pending : length l.buffer.items ≡ (length l.fn.buffer.items + l.at) % 1048576;
+  calls : g.D.Disk.tells → Calls ((length l.fn.buffer.items + l.at) / 1048576) (g.D.Disk.shows l.fn.disk) (g.D.Disk.shows l.disk);
   told : g.D.Disk.tells → (text : List ℕ) × Gathers (g.D.Disk.shows l.disk) l.filled l.buffer.items text;
   done : (text : List ℕ) → g.D.Disk.tells → Gathers (g.D.Disk.shows l.fn.disk) l.fn.filled l.fn.buffer.items text
       → Gathers (g.D.Disk.shows l.disk) l.filled l.buffer.items (text ++ take l.at l.bytes);

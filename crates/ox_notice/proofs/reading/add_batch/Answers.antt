@@ -4,7 +4,7 @@ use Rattle.ox_ops.specs.declared.notice.Notice.{Notice}
 use Rattle.ox_ops.specs.declared.notice.NoticeItem.{NoticeItem}
 use Rattle.ox_ops.specs.Answer.{items_in}
 use Rattle.ox_ops.specs.Page.{item_size}
-use Rattle.ox_page.specs.Filling.{Holds}
+use Rattle.ox_ops.specs.Filling.{Holds}
 use Rattle.ox_notice.specs.Kept.{item_at}
 use Rattle.ox_notice.proofs.Readings.{drop-map, take-whole}
 use Rattle.ox_notice.proofs.reading.add_batch.Goals as goal

@@ -1,7 +1,7 @@
 use Rattle.std.proofs.Common.{◌++◌, List, map, take}
 use Rattle.ox_ops.specs.declared.notice.NoticeItem.{NoticeItem}
 use Rattle.ox_ops.specs.Page.{item_size}
-use Rattle.ox_page.specs.Filling.{Holds}
+use Rattle.ox_ops.specs.Filling.{Holds}
 use Rattle.ox_notice.specs.Kept.{item_at}
 use Rattle.ox_notice.proofs.reading.add_notices.Given as goal
 

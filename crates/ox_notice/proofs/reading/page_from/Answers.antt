@@ -1,5 +1,5 @@
 use Rattle.ox_ops.specs.Page.{item_size}
-use Rattle.ox_page.specs.FillingLaws.{holds-empty}
+use Rattle.ox_ops.specs.FillingLaws.{holds-empty}
 use Rattle.ox_notice.proofs.Readings.{begins, goes_on, ends_with, ends_full}
 use Rattle.std.proofs.Common.{refl, sym, arith}
 use Rattle.ox_notice.proofs.reading.page_from.Goals as goal

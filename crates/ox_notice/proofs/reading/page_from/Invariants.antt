@@ -2,7 +2,7 @@ use Rattle.std.proofs.Common.{◌≡◌, ◌-◌, length, take, drop}
 use Rattle.std.specs.List.{flat_map}
 use Rattle.ox_ops.specs.Answer.{items_in}
 use Rattle.ox_ops.specs.Page.{item_size}
-use Rattle.ox_page.specs.Filling.{Holds}
+use Rattle.ox_ops.specs.Filling.{Holds}
 use Rattle.ox_notice.proofs.reading.page_from.Given as goal
 
 abbrev pub invariant-loop-at : goal.invariant-loop-at

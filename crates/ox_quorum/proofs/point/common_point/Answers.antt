@@ -1,31 +1,24 @@
-use Rattle.std.proofs.Common.{arith, ◌≡◌, ◌<◌, ◌∙◌, sym, ap, refl}
+use Rattle.std.proofs.Common.{arith, ◌∙◌, ◌≡◌, subst, ℕ}
+use Rattle.std.specs.Prelude.{max}
+use Rattle.ox_types.specs.Limits.{count_limit}
+use Rattle.ox_types.specs.Log.{table_head}
 use Rattle.ox_quorum.specs.CommonPoint.{greatest, agree_at}
-use Rattle.ox_quorum.proofs.Points.{greatest_here, greatest_nowhere, greatest_below}
+use Rattle.ox_quorum.proofs.Points.{none_to, found_to, unlimited}
+use Rattle.ox_quorum.proofs.Tables.{lawful_small}
 use Rattle.ox_quorum.proofs.point.common_point.Goals as goal
-use Rattle.ox_quorum.proofs.point.common_point.Goals.{then-loop-count-test+else-count-least, else-loop-count-test}
 
-pub returns-in-None : goal.returns-in-None
-returns-in-None c = sym (c.loop-count.invariant.0 ∙ greatest_here (agree_at c.args.leader.now c.args.follower.now) c.max-least.result c.loop-count.count c.if-count-least.true c.in-None.ensures)
+pub returns-then-most-least-clause-every : goal.returns-then-most-least-clause-every
+returns-then-most-least-clause-every c = none_to count_limit (table_head c.args.leader.now).count (table_head c.args.follower.now).count c.head_count.result c.head_count-2.result c.min-most.result c.head_count.ensures c.head_count-2.ensures c.min-most.ensures (agree_at c.args.leader.now c.args.follower.now) (max c.args.leader.now.base.count c.args.follower.now.base.count) (omega (arith, c.max-least.ensures, c.if-most-least.true))
 
-pub loop-count-preserved : goal.loop-count-preserved
-loop-count-preserved c = (
-  c.loop-count.invariant.0 ∙ greatest_below (agree_at c.args.leader.now c.args.follower.now) c.max-least.result c.loop-count.count c.in-Some.lower (omega (arith, c.in-Some.ensures.0)) c.in-Some.ensures.1,
-  omega (arith, c.in-Some.ensures.0, c.loop-count.invariant.1),
-  omega (arith, c.in-Some.ensures.0, c.loop-count.invariant.2),
-)
+pub returns-then-most-least-clause-lawful : goal.returns-then-most-least-clause-lawful
+returns-then-most-least-clause-lawful c one two =
+    none_to count_limit (table_head c.args.leader.now).count (table_head c.args.follower.now).count c.head_count.result c.head_count-2.result c.min-most.result c.head_count.ensures c.head_count-2.ensures c.min-most.ensures (agree_at c.args.leader.now c.args.follower.now) (max c.args.leader.now.base.count c.args.follower.now.base.count) (omega (arith, c.max-least.ensures, c.if-most-least.true))
+    ∙ unlimited count_limit (table_head c.args.leader.now).count (table_head c.args.follower.now).count c.head_count.result c.head_count-2.result c.min-most.result c.head_count.ensures c.head_count-2.ensures c.min-most.ensures (agree_at c.args.leader.now c.args.follower.now) (max c.args.leader.now.base.count c.args.follower.now.base.count) (lawful_small c.args.leader.now one) (lawful_small c.args.follower.now two)
 
-pub returns-then-least-eq0 : goal.returns-then-least-eq0
-returns-then-least-eq0 c = elim c.loop-count-test.branch [
-  | then-loop-count-test+else-count-least w ↦ absurd (omega (arith, w.if-count-least.false, c.if-least-eq0.true))
-  | else-loop-count-test w ↦
-      let none : c.loop-count.count ≡ 0 = omega (arith, w.loop-count-test.false) in
-      sym (c.loop-count.invariant.0 ∙ ap (greatest (agree_at c.args.leader.now c.args.follower.now) c.max-least.result) none ∙ greatest_here (agree_at c.args.leader.now c.args.follower.now) c.max-least.result 0 (omega (arith, c.if-least-eq0.true)) refl)
-]
+pub returns-clause-every : goal.returns-clause-every
+returns-clause-every c = found_to count_limit (table_head c.args.leader.now).count (table_head c.args.follower.now).count c.head_count.result c.head_count-2.result c.min-most.result c.head_count.ensures c.head_count-2.ensures c.min-most.ensures (agree_at c.args.leader.now c.args.follower.now) (max c.args.leader.now.base.count c.args.follower.now.base.count) c.common_to.result (subst (λ (n : ℕ). c.common_to.result ≡ greatest (agree_at c.args.leader.now c.args.follower.now) n c.min-most.result) c.max-least.ensures c.common_to.ensures)
 
-pub returns-else-least-eq0 : goal.returns-else-least-eq0
-returns-else-least-eq0 c =
-    let below : c.loop-count.count < c.max-least.result = elim c.loop-count-test.branch [
-      | then-loop-count-test+else-count-least w ↦ omega (arith, w.if-count-least.false)
-      | else-loop-count-test w ↦ omega (arith, w.loop-count-test.false, c.if-least-eq0.false)
-    ] in
-    sym (c.loop-count.invariant.0 ∙ greatest_nowhere (agree_at c.args.leader.now c.args.follower.now) c.max-least.result c.loop-count.count below)
+pub returns-clause-lawful : goal.returns-clause-lawful
+returns-clause-lawful c one two =
+    found_to count_limit (table_head c.args.leader.now).count (table_head c.args.follower.now).count c.head_count.result c.head_count-2.result c.min-most.result c.head_count.ensures c.head_count-2.ensures c.min-most.ensures (agree_at c.args.leader.now c.args.follower.now) (max c.args.leader.now.base.count c.args.follower.now.base.count) c.common_to.result (subst (λ (n : ℕ). c.common_to.result ≡ greatest (agree_at c.args.leader.now c.args.follower.now) n c.min-most.result) c.max-least.ensures c.common_to.ensures)
+    ∙ unlimited count_limit (table_head c.args.leader.now).count (table_head c.args.follower.now).count c.head_count.result c.head_count-2.result c.min-most.result c.head_count.ensures c.head_count-2.ensures c.min-most.ensures (agree_at c.args.leader.now c.args.follower.now) (max c.args.leader.now.base.count c.args.follower.now.base.count) (lawful_small c.args.leader.now one) (lawful_small c.args.follower.now two)

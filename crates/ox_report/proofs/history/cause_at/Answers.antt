@@ -1,7 +1,7 @@
 use Rattle.std.proofs.Common.{arith}
 use Rattle.std.proofs.lemmas.Option.{slice_get-get_or}
-use Rattle.ox_safety.specs.declared.origin.Cause.TheVariants.{Opening}
-use Rattle.ox_safety.specs.declared.origin.Origin.{Origin}
+use Rattle.ox_wire.specs.declared.origin.Cause.TheVariants.{Opening}
+use Rattle.ox_wire.specs.declared.origin.Origin.{Origin}
 use Rattle.ox_report.proofs.OriginLemmas.{cause_here}
 use Rattle.ox_report.proofs.history.cause_at.Goals as goal
 

@@ -1,7 +1,6 @@
 use Rattle.std.proofs.Common.{◌≡◌, ◌++◌, ℕ, List, append_assoc, codes}
 use Rattle.std.proofs.lemmas.Result.{IfOk-weaker}
-use Rattle.ox_schedule.specs.Line.{behind_space}
-use Rattle.ox_report.specs.Field.{field}
+use Rattle.ox_text.specs.Words.{behind_space, field}
 use Rattle.ox_report.specs.Refusal.{part_name, bad_rule_name, bad_text}
 use Rattle.ox_report.proofs.refusal.add_bad.Goals as goal
 

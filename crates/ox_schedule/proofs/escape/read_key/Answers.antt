@@ -1,6 +1,6 @@
 use Rattle.std.proofs.Common.{◌≡◌, true, false, rules}
 use Rattle.std.specs.Str.{bytes_eq}
-use Rattle.ox_schedule.specs.Spelling.{spelt}
+use Rattle.ox_text.specs.Words.{spelt}
 use Rattle.ox_schedule.proofs.Words.{key_misspelt, key_found, key_faulty}
 use Rattle.ox_schedule.proofs.escape.read_key.Goals as goal
 

@@ -1,7 +1,7 @@
 use Rattle.std.proofs.Common.{◌≡◌, true, false, rules}
 use Rattle.std.specs.Str.{bytes_eq}
 use Rattle.ox_ops.specs.Forms as form
-use Rattle.ox_schedule.specs.Spelling.{spelt}
+use Rattle.ox_text.specs.Words.{spelt}
 use Rattle.ox_schedule.proofs.Words.{name_misspelt, name_found, name_faulty}
 use Rattle.ox_schedule.proofs.escape.read_name.Goals as goal
 

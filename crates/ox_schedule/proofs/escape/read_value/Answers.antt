@@ -1,6 +1,6 @@
 use Rattle.std.proofs.Common.{◌≡◌, true, false, rules}
 use Rattle.std.specs.Str.{bytes_eq}
-use Rattle.ox_schedule.specs.Spelling.{value_word}
+use Rattle.ox_text.specs.Words.{value_word}
 use Rattle.ox_schedule.proofs.Words.{value_misspelt, value_found, value_too_long}
 use Rattle.ox_schedule.proofs.escape.read_value.Goals as goal
 

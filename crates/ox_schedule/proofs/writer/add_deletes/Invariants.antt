@@ -1,6 +1,7 @@
 use Rattle.std.proofs.Common.{◌≡◌, ◌++◌, map, drop}
 use Rattle.ox_schedule.specs.Spelling.{delete_op}
-use Rattle.ox_schedule.specs.Line.{spaced, ops_behind}
+use Rattle.ox_text.specs.Words.{spaced}
+use Rattle.ox_schedule.specs.Line.{ops_behind}
 use Rattle.ox_schedule.proofs.writer.add_deletes.Given as goal
 
 abbrev pub invariant-loop-delete : goal.invariant-loop-delete

@@ -1,6 +1,6 @@
 use Rattle.std.proofs.Common.{◌≡◌, ◌++◌, map, drop}
 use Rattle.ox_schedule.specs.Spelling.{entry_word}
-use Rattle.ox_schedule.specs.Line.{spaced}
+use Rattle.ox_text.specs.Words.{spaced}
 use Rattle.ox_schedule.proofs.writer.add_entries.Given as goal
 
 abbrev pub invariant-loop-entry : goal.invariant-loop-entry

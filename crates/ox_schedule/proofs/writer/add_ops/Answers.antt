@@ -1,7 +1,8 @@
 use Rattle.std.proofs.Common.{◌≡◌, ◌++◌, List, ℕ, map}
 use Rattle.std.proofs.lemmas.Result.{IfOk-weaker}
 use Rattle.ox_schedule.specs.Spelling.{range_op, joined, batch_ops}
-use Rattle.ox_schedule.specs.Line.{spaced, ops_behind}
+use Rattle.ox_text.specs.Words.{spaced}
+use Rattle.ox_schedule.specs.Line.{ops_behind}
 use Rattle.ox_schedule.proofs.WriterLemmas.{batch_text}
 use Rattle.ox_schedule.proofs.writer.add_ops.Goals as goal
 

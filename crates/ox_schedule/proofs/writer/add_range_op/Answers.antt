@@ -1,7 +1,7 @@
 use Rattle.std.proofs.Common.{◌≡◌, ◌++◌, codes, append_assoc}
 use Rattle.std.proofs.lemmas.Result.{IfOk-weaker}
-use Rattle.ox_schedule.specs.Spelling.{range_op, range_words}
-use Rattle.ox_schedule.specs.Line.{spaced}
+use Rattle.ox_text.specs.Words.{range_words, spaced}
+use Rattle.ox_schedule.specs.Spelling.{range_op}
 use Rattle.ox_schedule.proofs.writer.add_range_op.Goals as goal
 
 pub returns : goal.returns

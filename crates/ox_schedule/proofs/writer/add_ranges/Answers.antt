@@ -2,7 +2,8 @@ use Rattle.std.proofs.Common.{◌≡◌, ◌∙◌, ◌++◌, ◌∷◌, ◌+◌
 use Rattle.std.proofs.lemmas.Grind.{common_steps}
 use Rattle.ox_order.specs.declared.range.KeyRange.{KeyRange}
 use Rattle.ox_schedule.specs.Spelling.{range_op}
-use Rattle.ox_schedule.specs.Line.{spaced, ops_behind}
+use Rattle.ox_text.specs.Words.{spaced}
+use Rattle.ox_schedule.specs.Line.{ops_behind}
 use Rattle.ox_schedule.proofs.WriterLemmas.{op_text}
 use Rattle.ox_schedule.proofs.writer.add_ranges.Goals as goal
 

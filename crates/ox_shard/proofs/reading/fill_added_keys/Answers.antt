@@ -1,7 +1,7 @@
 use Rattle.std.proofs.Common.{◌∙◌, sym, refl, subst, List, map}
 use Rattle.std.proofs.lemmas.List.{map-append, take_all}
 use Rattle.ox_ops.specs.Page.{key_size}
-use Rattle.ox_page.specs.Filling.{Holds}
+use Rattle.ox_ops.specs.Filling.{Holds}
 use Rattle.ox_index.specs.declared.added.Added.{Added}
 use Rattle.ox_shard.proofs.Pages.{entry-full, entry-room}
 use Rattle.ox_shard.proofs.reading.fill_added_keys.Goals as goal

@@ -1,6 +1,6 @@
 use Rattle.std.proofs.Common.{map, take}
 use Rattle.ox_ops.specs.Page.{key_size}
-use Rattle.ox_page.specs.Filling.{Holds}
+use Rattle.ox_ops.specs.Filling.{Holds}
 use Rattle.ox_index.specs.declared.added.Added.{Added}
 use Rattle.ox_shard.proofs.reading.fill_added_keys.Given as goal
 

@@ -5,7 +5,7 @@ use Rattle.std.proofs.lemmas.List.Elements.{filter_map-append}
 use Rattle.ox_ops.specs.declared.answer.Record.{Record}
 use Rattle.ox_ops.specs.State.{record_of}
 use Rattle.ox_ops.specs.Page.{record_size}
-use Rattle.ox_page.specs.Filling.{Holds}
+use Rattle.ox_ops.specs.Filling.{Holds}
 use Rattle.ox_index.specs.declared.added.Added.{Added}
 use Rattle.ox_shard.proofs.Entries.{first_is_found}
 use Rattle.ox_shard.proofs.Pages.{entry-full, entry-room, entry-skip, one-found}

@@ -2,7 +2,7 @@ use Rattle.std.proofs.Common.{take}
 use Rattle.std.specs.List.{filter_map}
 use Rattle.ox_ops.specs.State.{record_of}
 use Rattle.ox_ops.specs.Page.{record_size}
-use Rattle.ox_page.specs.Filling.{Holds}
+use Rattle.ox_ops.specs.Filling.{Holds}
 use Rattle.ox_index.specs.declared.added.Added.{Added}
 use Rattle.ox_shard.proofs.reading.fill_added_records.Given as goal
 

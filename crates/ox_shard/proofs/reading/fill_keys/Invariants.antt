@@ -2,7 +2,7 @@ use Rattle.std.proofs.Common.{◌≡◌, ◌++◌, map}
 use Rattle.std.specs.Map.Iter.{deref_pair}
 use Rattle.ox_ops.specs.declared.answer.Record.{Record}
 use Rattle.ox_ops.specs.Page.{key_size}
-use Rattle.ox_page.specs.Filling.{Holds}
+use Rattle.ox_ops.specs.Filling.{Holds}
 use Rattle.ox_puts.specs.Records.{records_in}
 use Rattle.ox_shard.proofs.reading.fill_keys.Given as goal
 

@@ -21,6 +21,7 @@ loop-log-preserved g c =
           let taken = c.in-Ok.ensures.taken in
           rw same.1 (goes_on _ _ _ _ _ _ _ so_far _ _ _ c.in-Ok-Some.payload (c.next_payload.ensures.quiet told now.state) (rw same.1 at reading)
           (λ more half. sym c.in-Ok-Some.field-0-is ∙ c.in-Ok-Some.ensures.held so_far.done more told now.state so_far.reads.reading half)
+          (rw c.in-Ok-Some.field-0-is at c.in-Ok-Some.ensures.gate told now.state)
           taken.0 _ c.in-Ok.still (ap actions_of (sym c.as_slice.ensures) ∙ taken.1) taken.2 taken.3);
     }
 
@@ -38,6 +39,7 @@ returns-in-Err-read_payload-clause-damaged g c = λ half at is.
             let reading = rw (c.in-Ok-Some.field-0-is) at (c.in-Ok-Some.ensures.given so_far.done told now.state so_far.reads.reading) in
             breaks_at _ _ _ _ _ now.round both.1 (payload_breaks _ _ _ _ _ _ _ so_far _ _ _ c.in-Ok-Some.payload (c.next_payload.ensures.quiet told now.state) (rw same.1 at reading)
             (λ more half. sym c.in-Ok-Some.field-0-is ∙ c.in-Ok-Some.ensures.held so_far.done more told now.state so_far.reads.reading half)
+            (rw c.in-Ok-Some.field-0-is at c.in-Ok-Some.ensures.gate told now.state)
             (λ ys are. c.in-Err-read_payload.ensures.damaged ys (ap Err here) (ap actions_of c.as_slice.ensures ∙ are))),
       )
     ]
@@ -53,6 +55,7 @@ returns-in-Err-read_payload-clause-held_err g c = λ payloads state told half fo
           let reading = rw (c.in-Ok-Some.field-0-is) at (c.in-Ok-Some.ensures.given so_far.done told now.state so_far.reads.reading) in
           never_held _ _ _ _ _ _ _ so_far _ _ _ c.in-Ok-Some.payload (c.next_payload.ensures.quiet told now.state) (rw same.1 at reading)
           (λ more half. sym c.in-Ok-Some.field-0-is ∙ c.in-Ok-Some.ensures.held so_far.done more told now.state so_far.reads.reading half)
+          (rw c.in-Ok-Some.field-0-is at c.in-Ok-Some.ensures.gate told now.state)
           (λ ys are. c.in-Err-read_payload.ensures.damaged ys (ap Err here) (ap actions_of c.as_slice.ensures ∙ are))
           payloads state (rw now.round half) folds
           )

@@ -6,6 +6,7 @@ abbrev pub invariant-pieces : goal.invariant-pieces
 invariant-pieces g l =
     record {
       taken : Consumes (g.S.Source.stream l.fn.source).told (g.S.Source.stream l.source).told l.bytes;
+      small : length l.bytes ≤ 67112960;
       later : (g.S.Source.stream l.fn.source).faults ≤ (g.S.Source.stream l.source).faults;
     }
 

@@ -2,7 +2,7 @@ use Rattle.std.proofs.Common.{◌≡◌, ◌+◌, ◌++◌, length}
 use Rattle.std.specs.List.{flat_map}
 use Rattle.std.specs.Vec.Iter.{into_iter_items, into_iter_len}
 use Rattle.ox_report.specs.Effect.{effect_line}
-use Rattle.ox_safety.specs.Run.{messages_of, sent_effects}
+use Rattle.ox_solo_safety.specs.Run.{messages_of, sent_effects}
 use Rattle.oxia_top.specs.Letters.{messages_in}
 use Rattle.oxia_top.proofs.LetterLemmas.{Sending}
 use Rattle.oxia_top.proofs.letter.send_all.Given as goal

@@ -1,7 +1,7 @@
 use Rattle.std.proofs.Common.{◌≡◌, ◌++◌, take}
 use Rattle.std.specs.List.{flat_map}
 use Rattle.ox_report.specs.Effect.{effect_line}
-use Rattle.ox_safety.specs.Run.{answer_effects}
+use Rattle.ox_solo_safety.specs.Run.{answer_effects}
 use Rattle.oxia_top.proofs.telling.add_answers.Given as goal
 
 abbrev pub invariant-loop-reply : goal.invariant-loop-reply

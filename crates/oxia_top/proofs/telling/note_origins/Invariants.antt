@@ -1,5 +1,5 @@
 use Rattle.std.proofs.Common.{◌≡◌, ◌++◌, take, map}
-use Rattle.ox_safety.specs.Run.{origin_of}
+use Rattle.ox_solo_safety.specs.Run.{origin_of}
 use Rattle.oxia_top.proofs.telling.note_origins.Given as goal
 
 abbrev pub invariant-loop-entry : goal.invariant-loop-entry

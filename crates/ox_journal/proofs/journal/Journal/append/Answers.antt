@@ -1,6 +1,7 @@
 use Rattle.std.proofs.Common.{◌≡◌, ◌∙◌, ◌<◌, ◌^◌, ◌++◌, ◌∷◌, [], length, arith, rules}
 use Rattle.ox_journal.specs.Half.{record_text, front}
 use Rattle.ox_journal.proofs.Pairs.{starts, live_leaves, pair_leaves, opened_next}
+use Rattle.ox_journal.proofs.Turns.{append_turn}
 use Rattle.ox_journal.proofs.journal.Journal.append.Goals as goal
 
 pub returns-in-Ok-clause-done : goal.returns-in-Ok-clause-done
@@ -34,3 +35,9 @@ pub returns-in-Err-clause-any_moment : goal.returns-in-Err-clause-any_moment
 returns-in-Err-clause-any_moment g c payloads told open_now is_open =
     let small : length c.args.payload.now < 2 ^ 32 = omega (arith, c.requires.size) in
     pair_leaves _ _ _ _ payloads is_open _ small _ (returns-in-Err-clause-live g c payloads told open_now is_open)
+
+pub returns-in-Ok-clause-in_turn : goal.returns-in-Ok-clause-in_turn
+returns-in-Ok-clause-in_turn g c payloads told open_now is_open = append_turn g.D.Disk.shows _ _ _ _ _ payloads _ (returns-in-Ok-clause-any_moment g c payloads told open_now is_open)
+
+pub returns-in-Err-clause-in_turn : goal.returns-in-Err-clause-in_turn
+returns-in-Err-clause-in_turn g c payloads told open_now is_open = append_turn g.D.Disk.shows _ _ _ _ _ payloads _ (returns-in-Err-clause-any_moment g c payloads told open_now is_open)

@@ -1,5 +1,6 @@
 use Rattle.ox_journal.proofs.Switching.{filled_more, fill_leaves, with_spare}
 use Rattle.std.proofs.Common.{arith}
+use Rattle.ox_journal.proofs.Turns.{held_turn}
 use Rattle.ox_journal.proofs.journal.Journal.fill.Goals as goal
 
 pub returns-in-Ok-clause-done : goal.returns-in-Ok-clause-done
@@ -18,3 +19,9 @@ returns-in-Ok-clause-any_moment g c payloads new told filling is_open rewriting 
 pub returns-in-Err-clause-any_moment : goal.returns-in-Err-clause-any_moment
 returns-in-Err-clause-any_moment g c payloads new told filling is_open rewriting =
     fill_leaves _ _ _ _ payloads is_open _ (c.fill_all.ensures.any_moment _ told rewriting.gathers)
+
+pub returns-in-Ok-clause-in_turn : goal.returns-in-Ok-clause-in_turn
+returns-in-Ok-clause-in_turn g c payloads new told filling is_open rewriting = held_turn g.D.Disk.shows _ _ _ _ _ payloads (returns-in-Ok-clause-any_moment g c payloads new told filling is_open rewriting)
+
+pub returns-in-Err-clause-in_turn : goal.returns-in-Err-clause-in_turn
+returns-in-Err-clause-in_turn g c payloads new told filling is_open rewriting = held_turn g.D.Disk.shows _ _ _ _ _ payloads (returns-in-Err-clause-any_moment g c payloads new told filling is_open rewriting)

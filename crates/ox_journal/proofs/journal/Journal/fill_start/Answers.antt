@@ -1,6 +1,7 @@
 use Rattle.ox_journal.proofs.Switching.{record_begun, fill_leaves, with_spare}
 use Rattle.std.proofs.Common.{◌≡◌, ◌<◌, ◌^◌, ◌∷◌, [], ℕ, List, get_or, ap}
 use Rattle.ox_journal.specs.Half.{be32}
+use Rattle.ox_journal.proofs.Turns.{held_turn}
 use Rattle.ox_journal.proofs.journal.Journal.fill_start.Goals as goal
 
 pub returns-in-Ok-clause-done : goal.returns-in-Ok-clause-done
@@ -21,3 +22,9 @@ returns-in-Ok-clause-any_moment g c payloads new told filling is_open rewriting 
 pub returns-in-Err-clause-any_moment : goal.returns-in-Err-clause-any_moment
 returns-in-Err-clause-any_moment g c payloads new told filling is_open rewriting =
     fill_leaves _ _ _ _ payloads is_open _ (c.fill_once.ensures.any_moment _ told rewriting.gathers)
+
+pub returns-in-Ok-clause-in_turn : goal.returns-in-Ok-clause-in_turn
+returns-in-Ok-clause-in_turn g c payloads new told filling is_open rewriting = held_turn g.D.Disk.shows _ _ _ _ _ payloads (returns-in-Ok-clause-any_moment g c payloads new told filling is_open rewriting)
+
+pub returns-in-Err-clause-in_turn : goal.returns-in-Err-clause-in_turn
+returns-in-Err-clause-in_turn g c payloads new told filling is_open rewriting = held_turn g.D.Disk.shows _ _ _ _ _ payloads (returns-in-Err-clause-any_moment g c payloads new told filling is_open rewriting)

@@ -5,13 +5,13 @@ use Rattle.ox_memory.proofs.Moments.{written, not_written, seen_more, safe_more,
 use Rattle.ox_memory.proofs.disk.MemoryDiskDisk.write_at.Goals as goal
 
 pub returns-in-Err-clause-writes : goal.returns-in-Err-clause-writes
-returns-in-Err-clause-writes c = not_written _ _ _ _ _ _ _ c.in-Err.ensures.log_err c.fails.ensures.counted
+returns-in-Err-clause-writes c = not_written _ _ _ _ _ _ _ c.in-Err.ensures.log_err c.fails-asked.ensures.counted
 
 pub returns-in-Ok-add_write-clause-writes : goal.returns-in-Ok-add_write-clause-writes
 returns-in-Ok-add_write-clause-writes c =
     let log = c.args.self.now.log.items in
     let is : c.add_write.new.log.items ≡ log ++ Write c.args.at c.args.bytes.now ∷ [] = c.in-Ok-add_write.ensures.log ∙ ap (λ (b : List ℕ). log ++ Write c.args.at b ∷ []) c.in-Ok.ensures in
-    written log c.add_write.new.log.items c.args.at c.args.bytes.now is c.requires _ _ _ c.fails.ensures.counted
+    written log c.add_write.new.log.items c.args.at c.args.bytes.now is c.requires _ _ c.answer.result c.fails-asked.ensures.counted
 
 pub invariant_of-self-in-Ok-add_write-clause-seen : goal.invariant_of-self-in-Ok-add_write-clause-seen
 invariant_of-self-in-Ok-add_write-clause-seen c =

@@ -7,7 +7,7 @@ use Rattle.ox_ops.specs.declared.answer.ShardAnswer.TheVariants as answer
 use Rattle.ox_ops.specs.State.{ShardState}
 use Rattle.ox_ops.specs.Answer.{items_in, notices_after}
 use Rattle.ox_ops.specs.Page.{item_size}
-use Rattle.ox_page.specs.Filling.{Filling, Holds}
+use Rattle.ox_ops.specs.Filling.{Filling, Holds}
 use Rattle.ox_notice.specs.Kept.{Kept, kept_of}
 use Rattle.ox_notice.proofs.notices.Notices.after.Goals as goal
 

@@ -2,7 +2,7 @@ use Rattle.std.proofs.Common.{◌∙◌, ap, subst, ℕ, List, filter}
 use Rattle.ox_order.specs.Range.{in_range}
 use Rattle.ox_ops.specs.Answer.{IndexPair}
 use Rattle.ox_ops.specs.Page.{key_size}
-use Rattle.ox_page.specs.Filling.{Holds}
+use Rattle.ox_ops.specs.Filling.{Holds}
 use Rattle.ox_index.specs.Pairs.{pairs_under}
 use Rattle.ox_shard.specs.Parts.{state_of}
 use Rattle.ox_shard.proofs.Entries.{listed-by}

@@ -3,7 +3,7 @@ use Rattle.ox_order.specs.Range.{in_range}
 use Rattle.ox_ops.specs.declared.answer.Record.{Record}
 use Rattle.ox_ops.specs.Answer.{IndexPair}
 use Rattle.ox_ops.specs.Page.{record_size}
-use Rattle.ox_page.specs.Filling.{Holds}
+use Rattle.ox_ops.specs.Filling.{Holds}
 use Rattle.ox_index.specs.Pairs.{pairs_under}
 use Rattle.ox_shard.specs.Parts.{state_of}
 use Rattle.ox_shard.proofs.Entries.{scanned-by}

@@ -1,5 +1,6 @@
 use Rattle.std.proofs.Common.{append_assoc}
 use Rattle.ox_ops.specs.Forms.{op_reply}
+use Rattle.ox_bytes.specs.WritingLaws.{puts_all}
 use Rattle.ox_ops.proofs.fields.reply.OpReplyField.put.Goals as goal
 
 pub returns-in_ok-put_u64-in-Ranged : goal.returns-in_ok-put_u64-in-Ranged
@@ -8,7 +9,7 @@ returns-in_ok-put_u64-in-Ranged c = rw (c.in-Ranged.is, c.in_ok-put_u64-in-Range
 
 pub returns-in-KeyNotFound : goal.returns-in-KeyNotFound
 unfolding op_reply
-returns-in-KeyNotFound c = rw c.in-KeyNotFound.is c.put_u8-in-KeyNotFound.ensures.ok
+returns-in-KeyNotFound c = rw c.in-KeyNotFound.is (puts_all c.put_u8-in-KeyNotFound.result c.args.to.now c.put_u8-in-KeyNotFound.new.self _ c.put_u8-in-KeyNotFound.ensures.ok c.put_u8-in-KeyNotFound.ensures.err)
 
 pub returns-in_ok-put_version-in-UnexpectedVersion : goal.returns-in_ok-put_version-in-UnexpectedVersion
 unfolding op_reply

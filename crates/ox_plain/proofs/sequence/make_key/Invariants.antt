@@ -1,7 +1,0 @@
-use Rattle.std.proofs.Common.{◌≡◌, ◌++◌, take}
-use Rattle.std.specs.List.{flat_map}
-use Rattle.ox_ops.specs.Sequence.{group_text}
-use Rattle.ox_plain.proofs.sequence.make_key.Given as goal
-
-abbrev pub invariant-loop-number : goal.invariant-loop-number
-invariant-loop-number l = l.text.items ≡ l.prefix ++ flat_map group_text (take l.number-index l.numbers)

@@ -1,5 +1,0 @@
-use Rattle.ox_plain.proofs.Sizes.{range-ends}
-use Rattle.ox_plain.proofs.size.range_bytes.Goals as goal
-
-pub returns-clause-exact : goal.returns-clause-exact
-returns-clause-exact c = range-ends _ _ _ c.lo_bytes.ensures.exact c.hi_bytes.ensures.exact

@@ -1,8 +1,0 @@
-use Rattle.std.proofs.Common.{◌≡◌, drop}
-use Rattle.ox_ops.specs.Operation.{delete_on}
-use Rattle.ox_ops.specs.Apply.{each_on}
-use Rattle.ox_plain.specs.Made.{applied_of}
-use Rattle.ox_plain.proofs.state.State.delete_all.Given as goal
-
-abbrev pub invariant-loop-delete : goal.invariant-loop-delete
-invariant-loop-delete l = each_on delete_on (applied_of l.self l.done) (drop l.delete-index l.deletes) ≡ each_on delete_on (applied_of l.fn.self l.fn.done) l.deletes

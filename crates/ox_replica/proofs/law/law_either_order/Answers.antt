@@ -1,5 +1,0 @@
-use Rattle.ox_replica.proofs.Swapped.{holds_swapped}
-use Rattle.ox_replica.proofs.law.law_either_order.Goals as goal
-
-pub returns : goal.returns
-returns c = holds_swapped

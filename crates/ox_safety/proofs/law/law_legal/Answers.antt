@@ -1,5 +1,0 @@
-use Rattle.ox_safety.proofs.RunLemmas.{every_run_is_legal}
-use Rattle.ox_safety.proofs.law.law_legal.Goals as goal
-
-pub returns : goal.returns
-returns c = every_run_is_legal c.law_shard_is_machine.ensures

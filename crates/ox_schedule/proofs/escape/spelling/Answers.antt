@@ -1,6 +1,0 @@
-use Rattle.std.proofs.Common.{refl}
-use Rattle.ox_schedule.proofs.Words.{spelt_is}
-use Rattle.ox_schedule.proofs.escape.spelling.Goals as goal
-
-pub returns : goal.returns
-returns c = rw (c.in_ok-append_to.ensures.ok, c.new-text.ensures.bytes, c.percent_encode.ensures.text, spelt_is c.args.bytes.now) refl

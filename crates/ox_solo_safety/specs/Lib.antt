@@ -1,0 +1,10 @@
+pub mod World
+pub mod Run
+pub mod Moments
+pub mod Asked
+pub mod Says
+pub mod Expiry
+pub mod Refusals
+pub mod Notices
+pub mod Legal
+pub mod Shard
