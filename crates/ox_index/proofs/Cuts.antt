@@ -4,8 +4,7 @@ use Rattle.std.specs.Prelude.{not, ◌&&◌}
 use Rattle.std.specs.Option.{option_map}
 use Rattle.std.specs.List.{AllWithin}
 use Rattle.std.proofs.lemmas.Bool.{cases_Bool}
-use Rattle.ox_ops.specs.Answer.{first_of, last_of}
-use Rattle.ox_index.specs.Place.{IsCut}
+use Rattle.ox_types.specs.Lists.{first_of, last_of, IsCut}
 
 nil_take : {X : Type 0} (k : ℕ) → [] ≡ take {A = X} k []
 nil_take zero = refl

@@ -7,12 +7,13 @@ use Rattle.std.specs.declared.cmp.Ordering.{Ordering}
 use Rattle.std.specs.declared.cmp.Ordering.TheVariants.{Less, Equal, Greater}
 use Rattle.std.proofs.lemmas.List.{take-append-drop, drop_all}
 use Rattle.std.proofs.lemmas.List.Elements.{filter-append}
+use Rattle.ox_types.specs.Lists.{IsCut}
 use Rattle.ox_index.specs.declared.added.Added.{Added}
 use Rattle.ox_index.specs.Order.{added_cmp, StandsBefore, IsInOrder}
 use Rattle.ox_index.specs.OrderLaws.{added_anti, gt_after, before_earlier, in_order-drop}
 use Rattle.ox_index.specs.OrderTotal.{added_total}
 use Rattle.ox_index.specs.Pairs.{with_added, without_added}
-use Rattle.ox_index.specs.Place.{IsCut, IsPlaceOf, IsGapFor}
+use Rattle.ox_index.specs.Place.{IsPlaceOf, IsGapFor}
 use Rattle.ox_index.proofs.Cuts.{cut_front, cut_back, filter_alike, filter_both}
 
 -- two of the tests together

@@ -9,13 +9,13 @@ use Rattle.std.specs.declared.cmp.Ordering.TheVariants as ordering
 use Rattle.std.proofs.lemmas.Bool.{cases_Bool}
 use Rattle.ox_types.specs.Order.{bytes_cmp, key_cmp}
 use Rattle.ox_types.specs.OrderLaws.{key_total, key_ties}
+use Rattle.ox_types.specs.Lists.{first_of, last_of, IsCut}
 use Rattle.ox_ops.specs.declared.query.Compare.TheVariants.{Equal, Floor, Ceiling, Lower, Higher}
-use Rattle.ox_ops.specs.Answer.{first_of, last_of}
 use Rattle.ox_index.specs.declared.added.Added.{Added}
 use Rattle.ox_index.specs.Order.{entry_cmp, StandsBefore, IsInOrder}
 use Rattle.ox_index.specs.OrderLaws.{in_order-drop}
 use Rattle.ox_index.specs.Pairs.{has_name, found}
-use Rattle.ox_index.specs.Place.{IsCut, kept}
+use Rattle.ox_index.specs.Place.{kept}
 use Rattle.ox_index.proofs.Cuts.{cut_front, cut_back, filter_alike, filter_both}
 use Rattle.ox_index.proofs.Orders.{GoesDown, name_lt, name_le, entry_le}
 

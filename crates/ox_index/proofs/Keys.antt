@@ -5,9 +5,10 @@ use Rattle.std.specs.Option.{option_map}
 use Rattle.std.specs.Str.{bytes_eq}
 use Rattle.std.specs.Ordering.{is_lt, is_le}
 use Rattle.ox_types.specs.Order.{key_cmp}
+use Rattle.ox_types.specs.Lists.{first_of, last_of}
 use Rattle.ox_ops.specs.declared.query.Compare.{Compare}
 use Rattle.ox_ops.specs.declared.query.Compare.TheVariants.{Equal, Floor, Ceiling, Lower, Higher}
-use Rattle.ox_ops.specs.Answer.{compared, first_of, last_of}
+use Rattle.ox_ops.specs.Answer.{compared}
 use Rattle.ox_index.specs.declared.added.Added.{Added}
 use Rattle.ox_index.specs.Pairs.{has_name, pair_of, pairs_under, found}
 use Rattle.ox_index.proofs.Cuts.{filter_map_first, first_of-map, last_of-map}

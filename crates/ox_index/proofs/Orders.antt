@@ -7,16 +7,12 @@ use Rattle.std.specs.declared.cmp.Ordering.{Ordering}
 use Rattle.std.specs.declared.cmp.Ordering.TheVariants.{Less, Equal, Greater}
 use Rattle.std.proofs.lemmas.Bool.{cases_lt}
 use Rattle.ox_types.specs.Order.{bytes_cmp, key_cmp}
+use Rattle.ox_types.specs.Comparisons.{less_of}
+use Rattle.ox_types.specs.Lists.{IsCut}
 use Rattle.ox_ops.specs.declared.write.IndexEntry.{IndexEntry}
 use Rattle.ox_index.specs.declared.added.Added.{Added}
 use Rattle.ox_index.specs.Order.{entry_cmp, added_cmp, StandsBefore, IsInOrder}
 use Rattle.ox_index.specs.OrderTotal.{name_total, entry_total, added_total}
-use Rattle.ox_index.specs.Place.{IsCut}
-
-pub less_of : (r : Ordering) → is_lt r ≡ true → r ≡ Less
-less_of Less e = refl
-less_of Equal e = cc e
-less_of Greater e = cc e
 
 module _ {K : Type 0} {R : K → K → Ordering} (o : IsTotalOrder R) where
   -- what isn't past q is before all that q is before

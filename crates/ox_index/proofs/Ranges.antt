@@ -7,6 +7,7 @@ use Rattle.std.specs.declared.cmp.Ordering.{Ordering}
 use Rattle.std.specs.declared.cmp.Ordering.TheVariants.{Less, Equal, Greater}
 use Rattle.ox_types.specs.Order.{bytes_cmp}
 use Rattle.ox_types.specs.OrderLaws.{key_total}
+use Rattle.ox_types.specs.Lists.{IsCut}
 use Rattle.ox_order.specs.Range.{is_from, is_up_to, in_range}
 use Rattle.ox_order.specs.declared.range.KeyRange.{KeyRange}
 use Rattle.ox_order.specs.declared.range.Lo.{Lo}
@@ -15,7 +16,7 @@ use Rattle.ox_order.specs.declared.range.Hi.{Hi}
 use Rattle.ox_order.specs.declared.range.Hi.TheVariants.{End, Before}
 use Rattle.ox_index.specs.declared.added.Added.{Added}
 use Rattle.ox_index.specs.Pairs.{has_name, pair_of, pairs_under}
-use Rattle.ox_index.specs.Place.{IsCut, is_before_start, is_before_end}
+use Rattle.ox_index.specs.Place.{is_before_start, is_before_end}
 use Rattle.ox_index.proofs.Cuts.{cut_back, cut_window, filter_alike, filter_both, filter_map_first, map_both}
 
 -- a comparison turned round

@@ -1,26 +1,15 @@
 -- The order of added entries tells every two of them apart, and edits keep a list in it.
-use Rattle.std.proofs.Common.{◌≡◌, ◌∙◌, ℕ, zero, suc, Bool, true, List, [], ◌∷◌, ◌++◌, drop, filter, refl, ap, inl, inr}
-use Rattle.std.specs.Ordering.{is_lt, is_gt, ordering_then, ordering_reverse}
+use Rattle.std.proofs.Common.{◌≡◌, ◌∙◌, ℕ, zero, suc, Bool, List, [], ◌∷◌, ◌++◌, drop, filter, ap, inl, inr}
+use Rattle.std.specs.Ordering.{is_lt, is_gt, ordering_reverse}
 use Rattle.std.specs.FinMap.{nat_cmp-IsAntisymmetric, slice_cmp-IsAntisymmetric}
-use Rattle.std.specs.declared.cmp.Ordering.{Ordering}
 use Rattle.std.specs.declared.cmp.Ordering.TheVariants.{Less, Equal, Greater}
 use Rattle.std.proofs.lemmas.Bool.{cases_Bool}
 use Rattle.ox_types.specs.OrderLaws.{key_anti}
+use Rattle.ox_types.specs.Comparisons.{then_first, then_second, less_of, greater_of}
 use Rattle.ox_index.specs.declared.added.Added.{Added}
 use Rattle.ox_index.specs.Order.{entry_cmp, added_cmp, StandsBefore, IsInOrder}
 use Rattle.ox_index.specs.OrderTotal.{added_total}
 use Rattle.ox_index.specs.Pairs.{with_added, without_added}
-
--- what a sum of two comparisons says of each
-then_first : (r s : Ordering) → ordering_then r s ≡ Equal → r ≡ Equal
-then_first Less s e = cc e
-then_first Equal s e = refl
-then_first Greater s e = cc e
-
-then_second : (r s : Ordering) → ordering_then r s ≡ Equal → s ≡ Equal
-then_second Less s e = cc e
-then_second Equal s e = e
-then_second Greater s e = cc e
 
 -- entries that tie are the same
 pub added_anti : (a b : Added) → added_cmp a b ≡ Equal → a ≡ b
@@ -67,16 +56,6 @@ in_order-filter t (x ∷ xs) h = elim (cases_Bool (t x)) [
 abbrev StandsAfter : Added → List Added → Type 0
 StandsAfter a [] = Unit {0}
 StandsAfter a (x ∷ xs) = (added_cmp x a ≡ Less) × StandsAfter a xs
-
-less_of : (r : Ordering) → is_lt r ≡ true → r ≡ Less
-less_of Less e = refl
-less_of Equal e = cc e
-less_of Greater e = cc e
-
-greater_of : (r : Ordering) → is_gt r ≡ true → r ≡ Greater
-greater_of Less e = cc e
-greater_of Equal e = cc e
-greater_of Greater e = refl
 
 after-lt : (a : Added) (xs : List Added) → StandsAfter a (filter (λ x. is_lt (added_cmp x a)) xs)
 after-lt a [] = tt

@@ -8,6 +8,7 @@ use Rattle.std.specs.declared.cmp.Ordering.{Ordering}
 use Rattle.std.specs.declared.cmp.Ordering.TheVariants.{Less, Equal, Greater}
 use Rattle.std.proofs.lemmas.Bool.{cases_Bool}
 use Rattle.ox_types.specs.Order.{bytes_cmp}
+use Rattle.ox_types.specs.Comparisons.{equal_of}
 use Rattle.ox_ops.specs.Answer.{IndexPair, pair_cmp, with_pair, sorted}
 use Rattle.ox_index.specs.declared.added.Added.{Added}
 use Rattle.ox_index.specs.Order.{added_cmp, StandsBefore, IsInOrder}
@@ -21,16 +22,6 @@ eq_false : (r : Ordering) → (r ≡ Equal → ⊥) → is_eq r ≡ false
 eq_false Less h = refl
 eq_false Equal h = absurd (h refl)
 eq_false Greater h = refl
-
-equal_of : (r : Ordering) → is_eq r ≡ true → r ≡ Equal
-equal_of Less e = cc e
-equal_of Equal e = refl
-equal_of Greater e = cc e
-
-less_of : (r : Ordering) → is_lt r ≡ true → r ≡ Less
-less_of Less e = refl
-less_of Equal e = cc e
-less_of Greater e = cc e
 
 tied : (a : Added) → is_eq (added_cmp a a) ≡ true
 tied a = ap is_eq (tied_itself added_total a)

@@ -1,6 +1,6 @@
 -- Places in a list of added entries, as a search answers them.
-use Rattle.std.specs.Prelude.{◌≡◌, ℕ, ◌<◌, ◌≤◌, Bool, true, false, List, length, Option, Some, None, if◌then◌else◌}
-use Rattle.std.specs.List.{AllWithin, insert, remove}
+use Rattle.std.specs.Prelude.{◌≡◌, ℕ, ◌<◌, ◌≤◌, Bool, List, length, Option, Some, None, if◌then◌else◌}
+use Rattle.std.specs.List.{insert, remove}
 use Rattle.std.specs.Ordering.{is_lt, is_le}
 use Rattle.ox_types.specs.Order.{bytes_cmp}
 use Rattle.ox_order.specs.declared.range.Lo.{Lo}
@@ -10,12 +10,6 @@ use Rattle.ox_order.specs.declared.range.Hi.TheVariants.{End, Before}
 use Rattle.ox_index.specs.declared.added.Added.{Added}
 use Rattle.ox_index.specs.Order.{entry_cmp}
 use Rattle.ox_index.specs.Pairs.{with_added, without_added}
-
--- the first n pass the test, and the others fail it
-pub record IsCut {X : Type 0} (test : X → Bool) (xs : List X) (n : ℕ) : Type 0 where
-  pub inside : n ≤ length xs
-  pub front : AllWithin (λ x. test x ≡ true) xs 0 n
-  pub back : AllWithin (λ x. test x ≡ false) xs n (length xs)
 
 -- the entry stands before the low end of the range in the index of this name
 abbrev pub is_before_start : List ℕ → Lo → Added → Bool

@@ -3,7 +3,7 @@ ghost use Rattle.std.specs.Prelude.{◌≡◌, IfOk, map, not};
 ghost use Rattle.std.specs.Option.{option_copied};
 ghost use Rattle.std.specs.Ordering.{is_lt, is_le};
 ghost use Rattle.ox_types.specs.Order.{bytes_cmp};
-ghost use Rattle.ox_ops.specs.Answer.{first_of, last_of};
+ghost use Rattle.ox_types.specs.Lists.{first_of, last_of};
 ghost use Rattle.ox_index.specs.Order.{entry_cmp, IsInOrder};
 ghost use Rattle.ox_index.specs.Pairs.{found};
 ghost use Rattle.ox_index.specs.Place.{kept};

@@ -2,8 +2,9 @@
 ghost use Rattle.std.specs.Prelude.{MatchResult};
 ghost use Rattle.std.specs.Ordering.{is_lt, is_le};
 ghost use Rattle.ox_types.specs.Order.{bytes_cmp};
+ghost use Rattle.ox_types.specs.Lists.{IsCut};
 ghost use Rattle.ox_index.specs.Order.{entry_cmp, added_cmp, IsInOrder};
-ghost use Rattle.ox_index.specs.Place.{IsCut, IsPlaceOf, IsGapFor, is_before_start, is_before_end};
+ghost use Rattle.ox_index.specs.Place.{IsPlaceOf, IsGapFor, is_before_start, is_before_end};
 
 use crate::added::{Added, entry_order, name_order, order};
 use ox_ops::{Hi, IndexEntry, Lo};

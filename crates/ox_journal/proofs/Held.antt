@@ -5,9 +5,9 @@ use Rattle.std.proofs.lemmas.List.{take_at}
 use Rattle.std.proofs.lemmas.Nat.{from_be_bytes-to_be_bytes_4}
 use Rattle.std.specs.Prelude.{nat_lt, ◌==◌, if◌then◌else◌}
 use Rattle.std.specs.Int.{from_be_bytes, w32}
+use Rattle.ox_types.specs.Lists.{first_of}
 use Rattle.ox_journal.specs.Half.{be32, record_text, records_text}
 use Rattle.ox_journal.specs.Next.{next_of, number_of}
-use Rattle.ox_journal.specs.Opening.{first_of}
 use Rattle.ox_journal.specs.declared.reading.Next.{Next}
 use Rattle.ox_journal.specs.declared.reading.Next.TheVariants.{Ends, Cut, Record}
 

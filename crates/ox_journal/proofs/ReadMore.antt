@@ -3,10 +3,10 @@ use Rattle.std.proofs.Common.{◌≡◌, ◌≢◌, ℕ, ◌+◌, ◌-◌, ◌<�
 use Rattle.std.proofs.lemmas.Bool.Decides.{nat_tests}
 use Rattle.std.proofs.lemmas.List.{drop_at, drop-drop, append_cancel_left, get_or-append-add}
 use Rattle.std.specs.Prelude.{nat_lt, ◌==◌, if◌then◌else◌}
+use Rattle.ox_types.specs.Lists.{first_of}
 use Rattle.ox_outside.specs.Disk.{Shown, IsSynced, Quiet}
 use Rattle.ox_journal.specs.Half.{mark, be32, record_text, records_text, front}
 use Rattle.ox_journal.specs.Next.{next_of, number_of, StandsAt}
-use Rattle.ox_journal.specs.Opening.{first_of}
 use Rattle.ox_journal.specs.Pair.{IsHalf, IsReading, IsOpen}
 use Rattle.ox_journal.specs.declared.reading.Next.TheVariants.{Ends, Cut, Record}
 use Rattle.ox_journal.proofs.Pairs.{front-push, length-front-push, all-push}

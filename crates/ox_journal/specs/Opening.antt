@@ -1,5 +1,5 @@
 -- What a create or a recovery makes of two disks.
-use Rattle.std.specs.Prelude.{◌≡◌, ℕ, List, [], ◌∷◌, Option, Some, None}
+use Rattle.std.specs.Prelude.{◌≡◌, ℕ, []}
 use Rattle.ox_outside.specs.Disk.{Shown, IsSynced, Quiet}
 use Rattle.ox_journal.specs.Head.{head_of, choice}
 use Rattle.ox_journal.specs.Pair.{IsReading}
@@ -27,8 +27,3 @@ pub record IsUnformatted (first second : Shown) : Type 0 where
   pub one_synced : IsSynced first
   pub two_synced : IsSynced second
   pub heads : chosen first second ≡ Neither
-
--- the first of some records, if there is one
-abbrev pub first_of : List (List ℕ) → Option (List ℕ)
-first_of [] = None
-first_of (payload ∷ payloads) = Some payload

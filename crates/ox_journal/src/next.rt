@@ -1,9 +1,9 @@
 // Reading the records of a journal.
 ghost use Rattle.std.specs.Prelude.{◌≡◌, ◌≢◌, ◌⊎◌, ◌≤◌, ℕ, List, [], ◌∷◌, ◌++◌, ◌+◌, length, drop, Ok, Err, Some, None, IfOk, IfErr, IsErrOf, IfSome};
+ghost use Rattle.ox_types.specs.Lists.{first_of};
 ghost use Rattle.ox_outside.specs.Causes.{Rose};
 ghost use Rattle.ox_outside.specs.Disk.{Quiet};
 ghost use Rattle.ox_journal.specs.Next.{next_of, StandsAt};
-ghost use Rattle.ox_journal.specs.Opening.{first_of};
 ghost use Rattle.ox_journal.specs.Pair.{IsHalf, IsOpen, IsReading};
 ghost use Rattle.ox_journal.specs.declared.state.State.TheVariants.{Open, Reading, Broken};
 ghost use Rattle.ox_journal.specs.declared.reading.Next.TheVariants.{Cut};

@@ -1,4 +1,3 @@
-pub mod Bytes
 pub mod FormLaws
 pub mod Forms
 pub mod Laws

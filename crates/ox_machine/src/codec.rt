@@ -1,6 +1,6 @@
 // Whole texts as values of a machine.
 ghost use Rattle.std.specs.Prelude.{◌≡◌, IsTrue, IfOk, Ok};
-ghost use Rattle.ox_machine.specs.Bytes.{Answers, value_in};
+ghost use Rattle.ox_bytes.specs.Texts.{Answers, value_in};
 
 use ox_bytes::{Field, FieldFault, decode};
 use ox_types::MachineFault;

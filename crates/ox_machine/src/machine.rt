@@ -1,9 +1,10 @@
 //! The trait of machines: what a replica needs of what it replicates.
 ghost use Rattle.std.specs.Prelude.{◌≡◌, ◌≤◌, ◌<◌, ◌+◌, ℕ, Ok, IsTrue, IfOk, OnOk, length};
+ghost use Rattle.ox_bytes.specs.Texts.{Answers, value_in};
 ghost use Rattle.ox_types.specs.Limits.{count_limit, time_limit};
+ghost use Rattle.ox_types.specs.Timers.{IdsRise};
 ghost use Rattle.ox_machine.specs.Meaning.{Meaning, reads};
-ghost use Rattle.ox_machine.specs.Bytes.{Answers, value_in};
-ghost use Rattle.ox_machine.specs.Laws.{IsMachine, IdsRise, command_limit};
+ghost use Rattle.ox_machine.specs.Laws.{IsMachine, command_limit};
 
 use ox_types::{Bad, EntryId, List, MachineFault, NoMemory, Octets, Timer};
 use std::alloc::Global;

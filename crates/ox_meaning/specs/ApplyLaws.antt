@@ -3,7 +3,7 @@ use Rattle.std.proofs.Common.{◌≡◌, ◌≤◌, ◌<◌, ◌∙◌, ◌+◌,
 use Rattle.std.specs.Prelude.{IsTrue, All, not, ◌==◌}
 use Rattle.std.specs.List.{list_all}
 use Rattle.std.specs.Option.{option_map}
-use Rattle.std.proofs.lemmas.Bool.{cases_Bool, lt-ltb, leb-true, ltb-false}
+use Rattle.std.proofs.lemmas.Bool.{cases_Bool, lt-ltb, leb-true, ltb-false, and_parts, and_from, or_parts}
 use Rattle.std.proofs.lemmas.List.Elements.{All-nil, All-cons, All-head, All-tail, All-append, All-push, All-filter, All-weaker, All-map}
 use Rattle.std.proofs.lemmas.List.Filters.{length-filter_both}
 use Rattle.ox_types.specs.Limits.{count_limit, time_limit}
@@ -27,9 +27,10 @@ use Rattle.ox_ops.specs.Weight.{state_weight, weight_limit, session_weight, reco
 use Rattle.ox_ops.specs.Operation.{Effect, put_on, delete_on, range_on}
 use Rattle.ox_ops.specs.Apply.{Applied, some_notice, and_then, each_on, batch_on, replied, open_on, closed, close_on, command_on, kept_time, kept_weight, with_batch, old, young, heavy, light, dropped, last_offset, retained, moved_to, with_notices, apply_entry}
 use Rattle.ox_ops.specs.Check.{put_fault, put_faults, bad_put, is_many, operations_in, command_fault}
+use Rattle.ox_ops.specs.CheckLaws.{neither_faulty, not_faulty}
 use Rattle.ox_machine.specs.Meaning.{reads}
 use Rattle.ox_meaning.specs.Fits.{IsMade, IsLeft, SessionsRise, FitsLog}
-use Rattle.ox_meaning.specs.Parts.{both, joined, either, neither, none_else, not_if, none_mapped, IfThere, list_all-All, All-list_all, sum-filter-le}
+use Rattle.ox_meaning.specs.Parts.{either, none_mapped, IfThere, list_all-All, All-list_all, sum-filter-le}
 use Rattle.ox_meaning.specs.AnswerLaws.{key_lawful}
 use Rattle.ox_meaning.specs.OperationLaws.{IsKept, IsBeside, IsDone, closed_reply, opened_reply, session_reply, full_reply, deleted_notice, few_records, put_done, delete_done, range_done}
 use Rattle.ox_meaning.specs.Shard.{shard_meaning}
@@ -97,8 +98,8 @@ record GoodPut (p : Put) : Type 0 where
 good_puts : (index : ℕ) (puts : List Put) → list_all put.is_lawful puts ≡ true → put_faults index puts ≡ None → All GoodPut puts
 good_puts index [] h free = All-nil GoodPut
 good_puts index (p ∷ puts) h free =
-    let lawful = both (put.is_lawful p) (list_all put.is_lawful puts) h in
-    let none = none_else (option_map (bad_put index) (put_fault p)) (put_faults (index + 1) puts) free in
+    let lawful = and_parts (put.is_lawful p) (list_all put.is_lawful puts) h in
+    let none = neither_faulty (option_map (bad_put index) (put_fault p)) (put_faults (index + 1) puts) free in
     All-cons GoodPut p puts (record { lawful = lawful.0; faultless = none_mapped (bad_put index) (put_fault p) none.0 }) (good_puts (index + 1) puts lawful.1 none.1)
 
 -- a batch that a log may hold
@@ -117,17 +118,17 @@ record BatchParts (b : WriteBatch) : Type 0 where
 batch_parts : (b : WriteBatch) → IsTrue (command.is_lawful (Write b)) → BatchParts b
 unfolding command write_batch
 batch_parts b h =
-    let a = both ((list put).is_lawful b.puts) _ h in
-    let c = both ((list delete).is_lawful b.deletes) ((list key_range).is_lawful b.ranges) a.1 in
-    record { puts = (both _ _ a.0).1; deletes = (both _ _ c.0).1; ranges = (both _ _ c.1).1 }
+    let a = and_parts ((list put).is_lawful b.puts) _ h in
+    let c = and_parts ((list delete).is_lawful b.deletes) ((list key_range).is_lawful b.ranges) a.1 in
+    record { puts = (and_parts _ _ a.0).1; deletes = (and_parts _ _ c.0).1; ranges = (and_parts _ _ c.1).1 }
 
 good_batch : (b : WriteBatch) → IsTrue (command.is_lawful (Write b)) → command_fault (Write b) ≡ None → GoodBatch b
 unfolding command_fault
 good_batch b h free =
     let parts = batch_parts b h in
-    let first = none_else _ (put_faults 0 b.puts) free in
-    let ops = none_else _ _ first.0 in
-    let many = neither (operations_in b == 0) (ltb 1000 (operations_in b)) (not_if (is_many (operations_in b)) _ ops.0) in
+    let first = neither_faulty _ (put_faults 0 b.puts) free in
+    let ops = neither_faulty _ _ first.0 in
+    let many = or_parts (operations_in b == 0) (ltb 1000 (operations_in b)) (not_faulty (is_many (operations_in b)) _ ops.0) in
     record {
       puts = good_puts 0 b.puts parts.puts first.1;
       deletes = All-list_all delete.is_lawful b.deletes parts.deletes;
@@ -170,7 +171,7 @@ record IsApplied (s : ShardState) (at : ℕ) (a : Applied) : Type 0 where
 
 replies_lawful : (rs : List OpReply) → length rs ≤ 1000 → All LawfulReply rs → IsTrue (shard_reply.is_lawful (record { ops = rs }))
 unfolding shard_reply
-replies_lawful rs few all = joined (ltb (length rs) (2 ^ 32)) (list_all op_reply.is_lawful rs) (lt-ltb (length rs) (2 ^ 32) (omega arith)) (list_all-All op_reply.is_lawful rs all)
+replies_lawful rs few all = and_from (ltb (length rs) (2 ^ 32)) (list_all op_reply.is_lawful rs) (lt-ltb (length rs) (2 ^ 32) (omega arith)) (list_all-All op_reply.is_lawful rs all)
 
 one_lawful : (r : OpReply) → LawfulReply r → IsTrue (shard_reply.is_lawful (record { ops = r ∷ [] }))
 one_lawful r h = replies_lawful (r ∷ []) (omega arith) (All-cons LawfulReply r [] h (All-nil LawfulReply))

@@ -4,7 +4,8 @@ use Rattle.std.specs.Prelude.{min, not, ◌&&◌}
 use Rattle.std.proofs.lemmas.Bool.{leb-true, leb-false, ltb-true, ltb-false, lt-ltb, le-ltb, le-leb, lt-leb, and_parts}
 use Rattle.std.proofs.lemmas.List.{length-append, append-nil}
 use Rattle.std.proofs.lemmas.List.Sums.{sum_by-cons, sum_by-append}
-use Rattle.ox_ops.specs.Page.{page_within, page_of, page_items, page_bytes}
+use Rattle.ox_types.specs.Limits.{page_items, page_bytes}
+use Rattle.ox_ops.specs.Page.{page_within, page_of}
 use Rattle.ox_ops.specs.Filling.{Filling, has_room, Holds}
 
 -- all of the items stand in the page, and those behind them go on from there
@@ -112,18 +113,18 @@ module _ {A : Type 0} (size : A → ℕ) where
 
     -- an item for which there is no room
     module _ (x : A) (ys : List A) (s : ℕ) (sized : s ≡ min (size x) 18446744073709551615) where
-      by_tests : (few fits : Bool) → ltb (length page.items) 1000 ≡ few → leb s page.room ≡ fits → few && fits ≡ false → page.items ≡ offered → page.room + sum_by size offered ≡ 3145728
-          → page_within size (1000 - length offered) (3145728 - sum_by size offered) (x ∷ ys) ≡ []
+      by_tests : (few fits : Bool) → ltb (length page.items) page_items ≡ few → leb s page.room ≡ fits → few && fits ≡ false → page.items ≡ offered → page.room + sum_by size offered ≡ page_bytes
+          → page_within size (page_items - length offered) (page_bytes - sum_by size offered) (x ∷ ys) ≡ []
       by_tests false fits e f h whole left =
-          let many : 1000 ≤ length offered = subst (λ l. 1000 ≤ length l) whole (ltb-false _ _ e) in
-          let zero_left : 1000 - length offered ≡ 0 = omega arith in
-          ap (λ n. page_within size n (3145728 - sum_by size offered) (x ∷ ys)) zero_left
+          let many : page_items ≤ length offered = subst (λ l. page_items ≤ length l) whole (ltb-false _ _ e) in
+          let zero_left : page_items - length offered ≡ 0 = omega arith in
+          ap (λ n. page_within size n (page_bytes - sum_by size offered) (x ∷ ys)) zero_left
       by_tests true false e f h whole left =
-          let few : length offered < 1000 = subst (λ l. length l < 1000) whole (ltb-true _ _ e) in
+          let few : length offered < page_items = subst (λ l. length l < page_items) whole (ltb-true _ _ e) in
           let big : page.room < s = leb-false _ _ f in
-          let count : 1000 - length offered ≡ suc (999 - length offered) = omega arith in
-          ap (λ n. page_within size n (3145728 - sum_by size offered) (x ∷ ys)) count
-          ∙ first_left (999 - length offered) (3145728 - sum_by size offered) x ys (lt-leb _ _ (omega arith))
+          let count : page_items - length offered ≡ suc (page_items - 1 - length offered) = omega arith in
+          ap (λ n. page_within size n (page_bytes - sum_by size offered) (x ∷ ys)) count
+          ∙ first_left (page_items - 1 - length offered) (page_bytes - sum_by size offered) x ys (lt-leb _ _ (omega arith))
       by_tests true true e f h whole left = absurd cc
 
     module _ (x : A) (s : ℕ) (sized : s ≡ min (size x) 18446744073709551615) where
@@ -134,16 +135,16 @@ module _ {A : Type 0} (size : A → ℕ) where
           let closed : page.more ≡ false = is_false page.more first.0 in
           let o = all_there closed in
           let whole : page.items ≡ offered = holds.items ∙ o.whole in
-          let few : length offered < 1000 = subst (λ l. length l < 1000) whole (ltb-true _ _ first.1) in
+          let few : length offered < page_items = subst (λ l. length l < page_items) whole (ltb-true _ _ first.1) in
           let fits : s ≤ page.room = leb-true _ _ both.1 in
-          let left : page.room + sum_by size offered ≡ 3145728 = subst (λ l. page.room + sum_by size l ≡ 3145728) whole holds.room in
+          let left : page.room + sum_by size offered ≡ page_bytes = subst (λ l. page.room + sum_by size l ≡ page_bytes) whole holds.room in
           let same : size x ≡ s = omega arith in
-          let count : 1000 - length offered ≡ suc (999 - length offered) = omega arith in
-          let room : 3145728 - sum_by size offered ≡ page.room = omega arith in
-          let one : page_within size (1000 - length offered) (3145728 - sum_by size offered) (x ∷ []) ≡ x ∷ [] =
-          ap (λ n. page_within size n (3145728 - sum_by size offered) (x ∷ [])) count
-          ∙ first_fits (999 - length offered) (3145728 - sum_by size offered) x [] (le-leb _ _ (omega arith))
-          ∙ ap (λ (l : List A). x ∷ l) (nothing (999 - length offered) (3145728 - sum_by size offered - size x)) in
+          let count : page_items - length offered ≡ suc (page_items - 1 - length offered) = omega arith in
+          let room : page_bytes - sum_by size offered ≡ page.room = omega arith in
+          let one : page_within size (page_items - length offered) (page_bytes - sum_by size offered) (x ∷ []) ≡ x ∷ [] =
+          ap (λ n. page_within size n (page_bytes - sum_by size offered) (x ∷ [])) count
+          ∙ first_fits (page_items - 1 - length offered) (page_bytes - sum_by size offered) x [] (le-leb _ _ (omega arith))
+          ∙ ap (λ (l : List A). x ∷ l) (nothing (page_items - 1 - length offered) (page_bytes - sum_by size offered - size x)) in
           let all : page_of size (offered ++ x ∷ []) ≡ offered ++ x ∷ [] = o.next (x ∷ []) ∙ ap (λ l. offered ++ l) one in
           let len : length (page_of size (offered ++ x ∷ [])) ≡ length (offered ++ x ∷ []) = ap length all in
           let sum : sum_by size (page.items ++ x ∷ []) ≡ sum_by size page.items + size x = sum_by-append size page.items (x ∷ []) ∙ ap (λ n. sum_by size page.items + n) (sum_by-cons size x [] ∙ omega arith) in
@@ -162,8 +163,8 @@ module _ {A : Type 0} (size : A → ℕ) where
               let o = all_there is in
               let whole : page.items ≡ offered = holds.items ∙ o.whole in
               let full : ltb (length page.items) page_items && leb s page.room ≡ false = is_shut page.more (ltb (length page.items) page_items) (leb s page.room) is h in
-              let left : page.room + sum_by size offered ≡ 3145728 = subst (λ l. page.room + sum_by size l ≡ 3145728) whole holds.room in
-              let none : page_within size (1000 - length offered) (3145728 - sum_by size offered) (x ∷ ys) ≡ [] = by_tests x ys s sized (ltb (length page.items) 1000) (leb s page.room) refl refl full whole left in
+              let left : page.room + sum_by size offered ≡ page_bytes = subst (λ l. page.room + sum_by size l ≡ page_bytes) whole holds.room in
+              let none : page_within size (page_items - length offered) (page_bytes - sum_by size offered) (x ∷ ys) ≡ [] = by_tests x ys s sized (ltb (length page.items) page_items) (leb s page.room) refl refl full whole left in
               let all : page_of size (offered ++ x ∷ ys) ≡ offered = o.next (x ∷ ys) ∙ ap (λ l. offered ++ l) none ∙ append-nil offered in
               let len : length (page_of size (offered ++ x ∷ ys)) ≡ length offered = ap length all in
               let long : length (offered ++ x ∷ ys) ≡ length offered + suc (length ys) = length-append offered (x ∷ ys) in

@@ -1,6 +1,6 @@
 ghost use Rattle.std.specs.Prelude.{◌≡◌, IsTrue, IfOk, Ok, length};
 ghost use Rattle.ox_bytes.specs.Fields.{whole_of};
-ghost use Rattle.ox_ops.specs.Bytes.{Answers, placed};
+ghost use Rattle.ox_bytes.specs.Texts.{Answers, placed};
 ghost use Rattle.ox_ops.specs.Forms.{command as command_form, query as query_form, shard_reply as reply_form, answer as answer_form};
 
 use crate::answer::ShardAnswer;

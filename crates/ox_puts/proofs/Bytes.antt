@@ -7,7 +7,7 @@ use Rattle.std.specs.Borrow.{Bor}
 use Rattle.std.specs.Cmp.Lexicographic.{pointwise}
 use Rattle.std.specs.Char.{is_ascii_digit, digit_value}
 use Rattle.std.specs.Str.Parse.{digits_value}
-use Rattle.std.proofs.lemmas.Bool.{cases_Bool, eqb-true, eq-eqb, leb-true, le-leb, lt-ltb, ltb-false}
+use Rattle.std.proofs.lemmas.Bool.{cases_Bool, eqb-true, eq-eqb, leb-true, le-leb, lt-ltb, ltb-false, and_parts}
 use Rattle.std.proofs.lemmas.Bool.Decides.{nat_tests}
 use Rattle.std.proofs.lemmas.Grind.{common_steps}
 use Rattle.std.proofs.lemmas.List.{take_more, take_all, append-nil}
@@ -15,16 +15,13 @@ use Rattle.std.proofs.lemmas.List.Folds.{list_all-append}
 use Rattle.std.proofs.lemmas.Int.Digits.{digits_value_more}
 use Rattle.std.proofs.lemmas.Str.Parse.{digits_value-take-le}
 use Rattle.ox_types.specs.Key.{IsKey, key_fault, reserved}
+use Rattle.ox_types.specs.Limits.{key_limit}
 use Rattle.ox_ops.specs.Sequence.{group_text, sequence_key, after_prefix, is_group, groups_of, greatest_number}
 use Rattle.ox_puts.specs.Search.{digits_number, front_number}
 use Rattle.ox_puts.proofs.Digits.{twenty, twenty-length, digit-is}
 use Rattle.ox_puts.proofs.Groups.{Fit, groups}
 
 -- ---- a prefix
-
-both : (a b : Bool) → (a && b) ≡ true → (a ≡ true) × (b ≡ true)
-both true b h = (refl, h)
-both false b h = cc h
 
 no_prefix : (prefix key : List ℕ) → pointwise nat_eq (take (length prefix) key) prefix ≡ false → after_prefix prefix key ≡ None
 no_prefix [] key h = cc h
@@ -40,7 +37,7 @@ has_prefix : (prefix key : List ℕ) → pointwise nat_eq (take (length prefix) 
 has_prefix [] key h = refl
 has_prefix (p ∷ prefix) [] h = cc h
 has_prefix (p ∷ prefix) (b ∷ key) h =
-    let parts = both (nat_eq b p) (pointwise nat_eq (take (length prefix) key) prefix) h in
+    let parts = and_parts (nat_eq b p) (pointwise nat_eq (take (length prefix) key) prefix) h in
     let e : b ≡ p = eqb-true b p parts.0 in
     rw (e, eq-eqb p p refl) (has_prefix prefix key parts.1)
 
@@ -214,19 +211,19 @@ no_dash (c ∷ needle) [] rest q h = elim (cases_Bool (c == 45)) [
   | inr other ↦ rw other refl
 ]
 no_dash (c ∷ needle) (p ∷ prefix) rest q h =
-    let parts = both (not (c == 45)) (list_all (λ c. not (c == 45)) needle) q in
+    let parts = and_parts (not (c == 45)) (list_all (λ c. not (c == 45)) needle) q in
     elim (cases_Bool (nat_eq c p)) [
       | inl same ↦ rw same (no_dash needle prefix rest parts.1 (rw same at h))
       | inr other ↦ rw other refl
     ]
 
-pub key_free : (bytes : List ℕ) → 0 < length bytes → length bytes ≤ 4096 → starts_with nat_eq bytes reserved ≡ false → key_fault bytes ≡ None
+pub key_free : (bytes : List ℕ) → 0 < length bytes → length bytes ≤ key_limit → starts_with nat_eq bytes reserved ≡ false → key_fault bytes ≡ None
 key_free bytes a b h =
     let some : (length bytes == 0) ≡ false = grind (arith, nat_tests) in
-    let short : nat_lt 4096 (length bytes) ≡ false = grind (arith, nat_tests) in
+    let short : nat_lt key_limit (length bytes) ≡ false = grind (arith, nat_tests) in
     rw (some, short, h) refl
 
-pub sequence-free : (prefix ns : List ℕ) → IsKey prefix → Fit ns → 1 ≤ length ns → length prefix + 21 * length ns ≤ 4096 → key_fault (sequence_key prefix ns) ≡ None
+pub sequence-free : (prefix ns : List ℕ) → IsKey prefix → Fit ns → 1 ≤ length ns → length prefix + 21 * length ns ≤ key_limit → key_fault (sequence_key prefix ns) ≡ None
 sequence-free prefix [] k f some short = absurd (omega arith)
 sequence-free prefix (n ∷ ns) k f some short =
     let long = length-append prefix (groups (n ∷ ns)) in
@@ -235,6 +232,6 @@ sequence-free prefix (n ∷ ns) k f some short =
     key_free (sequence_key prefix (n ∷ ns)) (omega arith) (omega arith) (no_dash reserved prefix (twenty n ++ groups ns) refl k.free)
 
 -- what is written is a key
-pub no_fault : (prefix ns items : List ℕ) (i : ℕ) → IsKey prefix → Fit ns → 1 ≤ length ns → length prefix + 21 * length ns ≤ 4096 → length ns ≤ i → items ≡ prefix ++ flat_map group_text (take i ns) → key_fault items ≡ None
+pub no_fault : (prefix ns items : List ℕ) (i : ℕ) → IsKey prefix → Fit ns → 1 ≤ length ns → length prefix + 21 * length ns ≤ key_limit → length ns ≤ i → items ≡ prefix ++ flat_map group_text (take i ns) → key_fault items ≡ None
 no_fault prefix ns items i k f some short done e =
     ap key_fault (e ∙ ap (λ xs. prefix ++ flat_map group_text xs) (take_all i ns done)) ∙ sequence-free prefix ns k f some short

@@ -1,6 +1,6 @@
 -- Numbers as 20 digits: the order of the digits is that of the numbers.
-use Rattle.std.proofs.Common.{◌≡◌, ◌≤◌, ◌<◌, ◌∙◌, ◌+◌, ◌-◌, ◌*◌, ◌^◌, ℕ, Bool, true, false, List, [], ◌∷◌, ◌++◌, length, refl, sym, ap, arith, inl, inr, replicate, decimal, length-append}
-use Rattle.std.specs.Prelude.{◌&&◌, nat_le, nat_lt}
+use Rattle.std.proofs.Common.{◌≡◌, ◌≤◌, ◌<◌, ◌∙◌, ◌+◌, ◌-◌, ◌*◌, ◌^◌, ℕ, true, List, [], ◌∷◌, ◌++◌, length, refl, sym, ap, arith, inl, inr, replicate, decimal, length-append}
+use Rattle.std.specs.Prelude.{nat_le, nat_lt}
 use Rattle.std.specs.List.{list_all}
 use Rattle.std.specs.Char.{digit_value, is_ascii_digit}
 use Rattle.std.specs.Str.Parse.{AllDigits, digits_value, digits_value_after}
@@ -9,7 +9,7 @@ use Rattle.std.specs.Cmp.Lexicographic.{slice_cmp}
 use Rattle.std.specs.FinMap.{IsAntisymmetric, nat_cmp-IsAntisymmetric, slice_cmp-IsAntisymmetric}
 use Rattle.std.specs.declared.cmp.Ordering.{Ordering}
 use Rattle.std.specs.declared.cmp.Ordering.TheVariants.{Less, Equal, Greater}
-use Rattle.std.proofs.lemmas.Bool.{cases_lt, lt-ltb, le-leb}
+use Rattle.std.proofs.lemmas.Bool.{cases_lt, lt-ltb, le-leb, and_parts}
 use Rattle.std.proofs.lemmas.Bool.Decides.{nat_tests}
 use Rattle.std.proofs.lemmas.Grind.{common_steps}
 use Rattle.std.proofs.lemmas.List.{length-replicate}
@@ -59,10 +59,6 @@ step_at n m a b x y e f h i = elim (cases_lt n m) [
   ]
 ]
 
-both : (a b : Bool) → (a && b) ≡ true → (a ≡ true) × (b ≡ true)
-both true b h = (refl, h)
-both false b h = cc h
-
 -- the digits behind two numbers
 value_order : (n m : ℕ) (xs ys : List ℕ) → list_all is_ascii_digit xs ≡ true → list_all is_ascii_digit ys ≡ true → length xs ≡ length ys
     → nat_cmp (digits_value_after 10 n xs) (digits_value_after 10 m ys) ≡ ordering_then (nat_cmp n m) (slice_cmp nat_cmp xs ys)
@@ -70,8 +66,8 @@ value_order n m [] [] p q l = sym (then_equal (nat_cmp n m))
 value_order n m [] (y ∷ ys) p q l = absurd (omega arith)
 value_order n m (x ∷ xs) [] p q l = absurd (omega arith)
 value_order n m (x ∷ xs) (y ∷ ys) p q l =
-    let a = both (is_ascii_digit x) (list_all is_ascii_digit xs) p in
-    let b = both (is_ascii_digit y) (list_all is_ascii_digit ys) q in
+    let a = and_parts (is_ascii_digit x) (list_all is_ascii_digit xs) p in
+    let b = and_parts (is_ascii_digit y) (list_all is_ascii_digit ys) q in
     let c = digit-is x a.0 in
     let d = digit-is y b.0 in
     value_order (n * 10 + digit_value x) (m * 10 + digit_value y) xs ys a.1 b.1 (omega arith)

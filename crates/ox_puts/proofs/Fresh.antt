@@ -10,8 +10,10 @@ use Rattle.std.specs.declared.cmp.Ordering.TheVariants.{Less, Equal, Greater}
 use Rattle.std.proofs.lemmas.Bool.{cases_Bool, leb-true}
 use Rattle.std.proofs.lemmas.Bool.Decides.{nat_tests}
 use Rattle.std.proofs.lemmas.List.{length-replicate}
+use Rattle.std.proofs.lemmas.Option.{same_Some}
 use Rattle.ox_types.specs.Order.{key_cmp}
 use Rattle.ox_types.specs.OrderLaws.{key_ties, key_anti}
+use Rattle.ox_types.specs.Comparisons.{equal_of}
 use Rattle.ox_ops.specs.declared.write.Put.{Put}
 use Rattle.ox_ops.specs.declared.answer.Record.{Record}
 use Rattle.ox_ops.specs.State.{ShardState, has_key, record_of}
@@ -117,20 +119,12 @@ raised_past (n ∷ last) deltas d p l h =
 
 same_key : (a b : List ℕ) → pointwise nat_eq a b ≡ true → a ≡ b
 same_key a b h = key_anti a b (equal_of (key_cmp a b) (sym (key_ties a b) ∙ h))
-  where
-    equal_of : (r : Ordering) → Rattle.std.specs.Ordering.is_eq r ≡ true → r ≡ Equal
-    equal_of Less e = cc e
-    equal_of Equal e = refl
-    equal_of Greater e = cc e
-
-some_is : (x y : Record) → Some x ≡ Some y → x ≡ y
-some_is x y h = cc
 
 found_there : (key : List ℕ) (rs : List Record) (r : Record) → record_of key rs ≡ Some r → IsIn r rs × (r.key ≡ key)
 found_there key [] r h = cc h
 found_there key (x ∷ rs) r h = elim (cases_Bool (has_key key x)) [
   | inl same ↦
-      let e : x ≡ r = some_is x r (rw same at h) in
+      let e : x ≡ r = same_Some x r (rw same at h) in
       (inl e, sym (ap (λ (y : Record). y.key) e) ∙ same_key x.key key same)
   | inr other ↦ let rest = found_there key rs r (rw other at h) in (inr rest.0, rest.1)
 ]

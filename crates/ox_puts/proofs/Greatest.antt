@@ -14,10 +14,10 @@ use Rattle.std.proofs.lemmas.List.{length-replicate}
 use Rattle.std.proofs.lemmas.List.Elements.{All-nil, All-cons, All-head, All-tail, All-weaker}
 use Rattle.ox_types.specs.Order.{has_slash, key_cmp}
 use Rattle.ox_types.specs.OrderLaws.{key_total, key_anti, key_turned}
+use Rattle.ox_types.specs.Lists.{last_of}
 use Rattle.ox_table.specs.Table.{IsRising}
 use Rattle.ox_table.specs.TableLaws.{IsRising-filter}
 use Rattle.ox_ops.specs.declared.answer.Record.{Record}
-use Rattle.ox_ops.specs.Answer.{last_of}
 use Rattle.ox_ops.specs.Sequence.{sequence_key, numbers_of, greater_of, last_numbers}
 use Rattle.ox_puts.specs.Records.{keyed}
 use Rattle.ox_puts.specs.Search.{IsCut, IsUpTo, IsIn, IsLast, Sees, next_of}

@@ -9,7 +9,7 @@ use Rattle.std.specs.Ordering.{nat_cmp, ordering_then}
 use Rattle.std.specs.Cmp.Lexicographic.{slice_cmp}
 use Rattle.std.specs.declared.cmp.Ordering.{Ordering}
 use Rattle.std.specs.declared.cmp.Ordering.TheVariants.{Less, Equal, Greater}
-use Rattle.std.proofs.lemmas.Bool.{cases_Bool, leb-true, eqb-true, eq-eqb, le-leb}
+use Rattle.std.proofs.lemmas.Bool.{cases_Bool, leb-true, eqb-true, eq-eqb, le-leb, and_parts}
 use Rattle.std.proofs.lemmas.Bool.Decides.{nat_tests}
 use Rattle.std.proofs.lemmas.List.{take-append-drop, append-nil}
 use Rattle.std.proofs.lemmas.List.Folds.{list_any-append}
@@ -63,14 +63,10 @@ either_false a b p q = rw p q
 digit_no_slash : (c : ℕ) → is_ascii_digit c ≡ true → is_slash c ≡ false
 digit_no_slash c h = grind (arith, nat_tests)
 
-both : (a b : Bool) → (a && b) ≡ true → (a ≡ true) × (b ≡ true)
-both true b h = (refl, h)
-both false b h = cc h
-
 digits_no_slash : (ds : List ℕ) → list_all is_ascii_digit ds ≡ true → has_slash ds ≡ false
 digits_no_slash [] h = refl
 digits_no_slash (d ∷ ds) h =
-    let parts = both (is_ascii_digit d) (list_all is_ascii_digit ds) h in
+    let parts = and_parts (is_ascii_digit d) (list_all is_ascii_digit ds) h in
     rw (digit_no_slash d parts.0) (digits_no_slash ds parts.1)
 
 pub groups-no_slash : (ns : List ℕ) → Fit ns → has_slash (groups ns) ≡ false
@@ -162,8 +158,8 @@ says_none ns e = subst (Says 0 []) e (record { text = refl; count = refl; fit = 
 
 is_group-is : (digits : List ℕ) → is_group digits ≡ true → (length digits ≡ 20) × (list_all is_ascii_digit digits ≡ true) × (digits_value 10 digits < 2 ^ 64)
 is_group-is digits h =
-    let front = both (length digits == 20 && list_all is_ascii_digit digits) (nat_le (digits_value 10 digits) greatest_number) h in
-    let parts = both (length digits == 20) (list_all is_ascii_digit digits) front.0 in
+    let front = and_parts (length digits == 20 && list_all is_ascii_digit digits) (nat_le (digits_value 10 digits) greatest_number) h in
+    let parts = and_parts (length digits == 20) (list_all is_ascii_digit digits) front.0 in
     let small : digits_value 10 digits ≤ greatest_number = leb-true (digits_value 10 digits) greatest_number front.1 in
     (eqb-true (length digits) 20 parts.0, parts.1, omega arith)
 
@@ -171,7 +167,7 @@ says_more : (k b : ℕ) (bytes ns : List ℕ) (found : Option (List ℕ)) → (b
     → option_map (λ numbers. digits_value 10 (take 20 bytes) ∷ numbers) found ≡ Some ns → Says (ℕ.suc k) (b ∷ bytes) ns
 says_more k b bytes ns None passes rest h = cc h
 says_more k b bytes ns (Some ms) passes rest h =
-    let parts = both (b == 45) (is_group (take 20 bytes)) passes in
+    let parts = and_parts (b == 45) (is_group (take 20 bytes)) passes in
     let dash : b ≡ 45 = eqb-true b 45 parts.0 in
     let digits = is_group-is (take 20 bytes) parts.1 in
     let v : ℕ = digits_value 10 (take 20 bytes) in

@@ -11,13 +11,14 @@ use Rattle.std.proofs.lemmas.Bool.{cases_Bool}
 use Rattle.std.proofs.lemmas.List.{map-append}
 use Rattle.ox_types.specs.Order.{key_cmp}
 use Rattle.ox_types.specs.OrderLaws.{key_total, key_ties}
+use Rattle.ox_types.specs.Lists.{first_of, last_of}
 use Rattle.ox_order.specs.Range.{in_range}
 use Rattle.ox_order.specs.declared.range.KeyRange.{KeyRange}
 use Rattle.ox_table.specs.Table.{Pairs, table_get, floor_of, ceiling_of, lower_of, higher_of, inserted, removed, within, without}
 use Rattle.ox_ops.specs.declared.answer.Record.{Record}
 use Rattle.ox_ops.specs.declared.query.Compare.TheVariants as compare
 use Rattle.ox_ops.specs.State.{has_key, record_of, without_key, with_record}
-use Rattle.ox_ops.specs.Answer.{compared, first_of, last_of}
+use Rattle.ox_ops.specs.Answer.{compared}
 use Rattle.ox_puts.specs.Records.{keyed, records_in}
 
 abbrev key_of : Record → List ℕ

@@ -3,6 +3,7 @@ use Rattle.std.proofs.Common.{◌≡◌, ◌≤◌, ◌<◌, ◌+◌, ◌-◌, �
 use Rattle.std.specs.Option.{ForSome}
 use Rattle.std.proofs.lemmas.Bool.{cases_Bool}
 use Rattle.std.proofs.lemmas.List.Elements.{All-append, All-cons, All-filter, All-head, All-tail, All-weaker}
+use Rattle.std.proofs.lemmas.Option.{same_Some}
 use Rattle.ox_table.specs.Table.{IsRising}
 use Rattle.ox_ops.specs.declared.reply.OpReply.{OpReply}
 use Rattle.ox_ops.specs.declared.answer.Record.{Record}
@@ -12,14 +13,11 @@ use Rattle.ox_ops.specs.Operation.{refused, meta_over}
 use Rattle.ox_puts.specs.Records.{RecordsState, IsOf, IsCounted, IsSound, IsKept, keyed}
 use Rattle.ox_puts.specs.Changes.{effect, refusal_of}
 
-some_is : (x y : Record) → Some x ≡ Some y → x ≡ y
-some_is x y h = cc
-
 -- what holds of all holds of the one that is found
 pub found : (P : Record → Type 0) (key : List ℕ) (rs : List Record) → All P rs → ForSome (record_of key rs) P
 found P key [] h x e = cc e
 found P key (r ∷ rs) h x e = elim (cases_Bool (has_key key r)) [
-  | inl same ↦ subst P (some_is r x (rw same at e)) (All-head P r rs h)
+  | inl same ↦ subst P (same_Some r x (rw same at e)) (All-head P r rs h)
   | inr other ↦ found P key rs (All-tail P r rs h) x (rw other at e)
 ]
 

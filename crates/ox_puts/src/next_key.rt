@@ -1,5 +1,6 @@
 //! The next key of a sequence.
 ghost use Rattle.std.specs.Prelude.{◌≡◌, ◌≤◌, ◌+◌, ◌*◌, length, map, IfOk};
+ghost use Rattle.ox_types.specs.Limits.{key_limit};
 ghost use Rattle.ox_ops.specs.declared.answer.Record.{Record};
 ghost use Rattle.ox_ops.specs.Sequence.{raised as raised_by, spent_from, next_key as next_of_keys};
 ghost use Rattle.ox_puts.specs.Search.{numbers_or_group};
@@ -40,7 +41,7 @@ pub fn next_key(
 ) -> Result<Result<Key, u32>, NoMemory>
     requires some { 1 ≤ length deltas.now }
     requires few { length deltas.now ≤ 8 }
-    requires short { length prefix.now + 21 * length deltas.now ≤ 4096 }
+    requires short { length prefix.now + 21 * length deltas.now ≤ key_limit }
     ensures { IfOk result (λ key. key ≡ next_of_keys (map (λ (r : Record). r.key) table.now) prefix.now deltas.now) }
 {
     let last = last_numbers(alloc, table, prefix, deltas.len())?;

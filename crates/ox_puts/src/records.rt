@@ -19,10 +19,10 @@ use crate::parts::{
     copy_entries, copy_range, meets, meta_over, put_notice, range_notice, version_of,
 };
 use crate::record_table::RecordTable;
-use crate::weight::{WEIGHT_LIMIT, record_weight, records_weight, weight_if_some, weight_with};
+use crate::weight::{record_weight, records_weight, weight_if_some, weight_with};
 use ox_ops::{Compare, Delete, KeyRange, Notice, OpReply, Put, Record};
 use ox_table::TableRange;
-use ox_types::{Key, List, NoMemory};
+use ox_types::{Key, List, NoMemory, WEIGHT_LIMIT};
 use std::alloc::Global;
 use std::marker::Model;
 
@@ -263,7 +263,7 @@ impl Records {
 
     /// The record that a put makes under the key, and the weight of the records with it.
     fn made(&self, put: &Put, key: &Key, time: u64) -> Result<(Record, u64), NoMemory>
-        requires small { sum_by entry_weight put.now.indexes ≤ 268435456 }
+        requires small { sum_by entry_weight put.now.indexes ≤ weight_limit }
         ensures added { IfOk result (λ m. m.0 ≡ put_record (shard_at time self.now) put.now key.now) }
         ensures weight { IfOk result (λ m. m.1 ≡ sum_by weight_of_record (with_record m.0 self.now.records)) }
         ensures modifications { IfOk result (λ m. m.0.meta.modifications ≤ self.now.next_version) }
@@ -312,7 +312,7 @@ impl Records {
     /// A put whose expectation holds.
     fn put_unless_full(&mut self, put: &Put, key: &Key, time: u64) -> Result<Change, NoMemory>
         requires next { self.old.next_version < 2 ^ 63 }
-        requires small { sum_by entry_weight put.now.indexes ≤ 268435456 }
+        requires small { sum_by entry_weight put.now.indexes ≤ weight_limit }
         ensures made { IfOk result (λ change. MakesAt time (λ s. unless_full s (put_record s put.now key.now) (weight_given s self.old.other put.now key.now)) self.old self.new change) }
         ensures gone { IfOk result (λ change. change.gone ≡ replaced_by change.reply self.old.records) }
         ensures others { self.new.other ≡ self.old.other }
@@ -334,7 +334,7 @@ impl Records {
     /// A put under its key: the expectation is tested first, and then the weight.
     fn put_at_key(&mut self, put: &Put, key: &Key, time: u64) -> Result<Change, NoMemory>
         requires next { self.old.next_version < 2 ^ 63 }
-        requires small { sum_by entry_weight put.now.indexes ≤ 268435456 }
+        requires small { sum_by entry_weight put.now.indexes ≤ weight_limit }
         ensures made { IfOk result (λ change. MakesAt time (λ s. put_at_given s self.old.other put.now key.now) self.old self.new change) }
         ensures gone { IfOk result (λ change. change.gone ≡ replaced_by change.reply self.old.records) }
         ensures others { self.new.other ≡ self.old.other }

@@ -2,6 +2,7 @@
 ghost use Rattle.std.specs.Prelude.{◌≡◌, ◌≤◌, ◌+◌, ◌*◌, ◌++◌, false, length, map, replicate, IfOk, IfSome};
 ghost use Rattle.std.specs.Option.{option_copied};
 ghost use Rattle.ox_types.specs.Order.{has_slash};
+ghost use Rattle.ox_types.specs.Limits.{key_limit};
 ghost use Rattle.ox_ops.specs.declared.answer.Record.{Record};
 ghost use Rattle.ox_ops.specs.Sequence.{last_numbers as last_of_keys, sequence_key as key_text};
 ghost use Rattle.ox_puts.specs.Search.{Sees, next_of, IsLast};
@@ -83,7 +84,7 @@ fn repeated(alloc: Global, number: u64, count: usize) -> Result<List<u64>, NoMem
 /// The sequence key of this number in each group.
 fn repeated_key(alloc: Global, prefix: &Key, number: u64, count: usize) -> Result<Key, NoMemory>
     requires some { 1 ≤ count }
-    requires short { length prefix.now + 21 * count ≤ 4096 }
+    requires short { length prefix.now + 21 * count ≤ key_limit }
     ensures { IfOk result (λ key. key ≡ key_text prefix.now (replicate count number)) }
 {
     let numbers = repeated(alloc, number, count)?;
@@ -101,7 +102,7 @@ pub fn last_numbers(
 ) -> Result<List<u64>, NoMemory>
     requires some { 1 ≤ count }
     requires few { count ≤ 8 }
-    requires short { length prefix.now + 21 * count ≤ 4096 }
+    requires short { length prefix.now + 21 * count ≤ key_limit }
     ensures numbers { IfOk result (λ numbers. numbers ≡ last_of_keys (map (λ (r : Record). r.key) table.now) prefix.now count) }
     ensures count { IfOk result (λ numbers. length numbers ≡ count) }
 {

@@ -2,6 +2,7 @@
 ghost use Rattle.std.specs.Prelude.{◌≡◌, ◌≤◌, ◌+◌, ◌*◌, ◌++◌, [], length, IfOk};
 ghost use Rattle.std.specs.List.{flat_map};
 ghost use Rattle.std.specs.Option.{option_copied};
+ghost use Rattle.ox_types.specs.Limits.{key_limit};
 ghost use Rattle.ox_ops.specs.Sequence.{group_text, sequence_key as key_text, after_prefix, groups_of};
 ghost use Rattle.ox_puts.specs.Search.{digits_number, front_number};
 
@@ -29,7 +30,7 @@ fn add_group(text: &mut Octets, number: u64) -> Result<(), NoMemory>
 /// The key of the prefix and these numbers, at the cost of its bytes.
 pub fn sequence_key(alloc: Global, prefix: &Key, numbers: &[u64]) -> Result<Key, NoMemory>
     requires some { 1 ≤ length numbers.now }
-    requires short { length prefix.now + 21 * length numbers.now ≤ 4096 }
+    requires short { length prefix.now + 21 * length numbers.now ≤ key_limit }
     ensures { IfOk result (λ key. key ≡ key_text prefix.now numbers.now) }
 {
     let mut text = Octets::from_slice(alloc, prefix.bytes())?;

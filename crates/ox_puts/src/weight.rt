@@ -1,16 +1,14 @@
 //! What records weigh.
 ghost use Rattle.std.specs.Prelude.{◌≡◌, ◌+◌, ◌≤◌, sum_by};
 ghost use Rattle.std.specs.Option.{option_copied};
+ghost use Rattle.ox_types.specs.Limits.{weight_limit};
 ghost use Rattle.ox_ops.specs.Weight.{entry_weight as weight_of_entry, record_weight as weight_of_record};
 ghost use Rattle.ox_puts.specs.Records.{old_weight};
 
 use ox_ops::{IndexEntry, Record};
 
-/// The most that a shard may weigh.
-pub const WEIGHT_LIMIT: u64 = 268_435_456;
-
 fn entries_weight(entries: &[IndexEntry]) -> u64
-    requires { sum_by weight_of_entry entries.now ≤ 268435456 }
+    requires { sum_by weight_of_entry entries.now ≤ weight_limit }
     ensures { result ≡ sum_by weight_of_entry entries.now }
 {
     match entries {
@@ -23,7 +21,7 @@ fn entries_weight(entries: &[IndexEntry]) -> u64
 }
 
 pub fn record_weight(item: &Record) -> u64
-    requires { sum_by weight_of_entry item.now.indexes ≤ 268435456 }
+    requires { sum_by weight_of_entry item.now.indexes ≤ weight_limit }
     ensures weight { result ≡ weight_of_record item.now }
     ensures small { result ≤ 270000000 }
 {
@@ -33,7 +31,7 @@ pub fn record_weight(item: &Record) -> u64
 
 /// What the record weighs, if there is one.
 pub fn weight_if_some(item: Option<&Record>) -> u64
-    requires { old_weight (option_copied item) ≤ 268435456 }
+    requires { old_weight (option_copied item) ≤ weight_limit }
     ensures { result ≡ old_weight (option_copied item.entry) }
 {
     match item {
@@ -44,7 +42,7 @@ pub fn weight_if_some(item: Option<&Record>) -> u64
 
 /// What the records weigh together.
 pub fn records_weight(records: &[Record]) -> u64
-    requires { sum_by weight_of_record records.now ≤ 268435456 }
+    requires { sum_by weight_of_record records.now ≤ weight_limit }
     ensures { result ≡ sum_by weight_of_record records.now }
 {
     let mut total = 0;
@@ -56,8 +54,8 @@ pub fn records_weight(records: &[Record]) -> u64
 
 /// The weight of all with one record in the place of another.
 pub fn weight_with(weight: u64, added: &Record, old: Option<&Record>) -> u64
-    requires small { sum_by weight_of_entry added.now.indexes ≤ 268435456 }
-    requires limited { weight ≤ 268435456 }
+    requires small { sum_by weight_of_entry added.now.indexes ≤ weight_limit }
+    requires limited { weight ≤ weight_limit }
     requires within { old_weight (option_copied old) ≤ weight }
     ensures { result + old_weight (option_copied old.entry) ≡ weight + weight_of_record added.now }
 {

@@ -1,5 +1,6 @@
 -- The forms of ensembles and configs are exact, and what is read as an ensemble is one.
 use Rattle.std.proofs.Common.{◌≡◌, ℕ, List, Some, refl, sym, ap}
+use Rattle.std.proofs.lemmas.Option.{same_Some}
 use Rattle.ox_bytes.specs.declared.fault.WireRule.TheVariants.{Range, Order}
 use Rattle.ox_bytes.specs.Form.{IsExact, pair}
 use Rattle.ox_bytes.specs.FormLaws.{checked_exact, pair_exact, is_variant}
@@ -26,11 +27,8 @@ config_one_there : (x : Config) (a : List ℕ) → config_one x ≡ Some a → O
 config_one_there (One b) a h = cc
 config_one_there _ a h = absurd cc
 
-some_is : {A : Type 0} (x y : A) → Some x ≡ Some y → x ≡ y
-some_is x y h = cc
-
 config_joint_there : (x : Config) (p : List ℕ × List ℕ) → config_joint x ≡ Some p → Joint p.0 p.1 ≡ x
-config_joint_there (Joint a b) p h = sym (ap (λ (q : List ℕ × List ℕ). Joint q.0 q.1) (some_is (a, b) p h))
+config_joint_there (Joint a b) p h = sym (ap (λ (q : List ℕ × List ℕ). Joint q.0 q.1) (same_Some (a, b) p h))
 config_joint_there _ p h = absurd cc
 
 pub config_exact : IsExact config

@@ -1,4 +1,5 @@
-ghost use Rattle.std.specs.Prelude.{◌≤◌, ◌^◌, IfOk};
+ghost use Rattle.std.specs.Prelude.{◌≤◌, IfOk};
+ghost use Rattle.ox_types.specs.Limits.{term_limit};
 ghost use Rattle.ox_solo_replica.specs.Inputs.{IsInput};
 
 use ox_machine::Register;
@@ -40,7 +41,7 @@ fn crashed(alloc: Global, node: Node, blocks: u32) -> Result<Node, Fail> {
 }
 
 fn new_term(node: &mut Node, term: u64) -> Result<Output, Fail>
-    requires { term ≤ 2 ^ 53 }
+    requires { term ≤ term_limit }
 {
     Ok(node.handle(Input::Peer {
         from: CHIEF,

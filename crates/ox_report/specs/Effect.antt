@@ -5,7 +5,7 @@ use Rattle.ox_types.specs.declared.bad.MachineFault.{MachineFault}
 use Rattle.ox_types.specs.declared.durable.KeptAs.{KeptAs}
 use Rattle.ox_types.specs.declared.durable.KeptAs.TheVariants as kept
 use Rattle.ox_types.specs.declared.log.Head.{Head}
-use Rattle.ox_machine.specs.Bytes.{value_in}
+use Rattle.ox_bytes.specs.Texts.{value_in}
 use Rattle.ox_ops.specs.declared.answer.ShardAnswer.{ShardAnswer}
 use Rattle.ox_ops.specs.declared.reply.ShardReply.{ShardReply}
 use Rattle.ox_ops.specs.Forms.{shard_reply, answer}

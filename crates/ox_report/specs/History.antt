@@ -5,7 +5,7 @@ use Rattle.ox_types.specs.declared.bad.MachineFault.{MachineFault}
 use Rattle.ox_types.specs.declared.log.Entry.{Entry}
 use Rattle.ox_types.specs.declared.log.EntryBody.{EntryBody}
 use Rattle.ox_types.specs.declared.log.EntryBody.TheVariants.{Pass, Command}
-use Rattle.ox_machine.specs.Bytes.{value_in}
+use Rattle.ox_bytes.specs.Texts.{value_in}
 use Rattle.ox_ops.specs.declared.write.ShardCommand.{ShardCommand}
 use Rattle.ox_ops.specs.declared.write.ShardCommand.TheVariants.{Write, Open, Close, Expire}
 use Rattle.ox_ops.specs.Forms.{command}

@@ -1,7 +1,7 @@
 // The history of a shard, an entry a line.
 ghost use Rattle.std.specs.Prelude.{◌≡◌, ◌++◌, ◌<◌, OnOk, IfSome, codes, length, slice_get};
 ghost use Rattle.std.specs.List.{flat_map};
-ghost use Rattle.ox_machine.specs.Bytes.{value_in};
+ghost use Rattle.ox_bytes.specs.Texts.{value_in};
 ghost use Rattle.ox_ops.specs.Forms.{command};
 ghost use Rattle.ox_wire.specs.Origins.{AreInStep};
 ghost use Rattle.ox_report.specs.History.{cause_of, by_arrival, command_text, command_told, what_text, entry_text, entry_line, history_text};

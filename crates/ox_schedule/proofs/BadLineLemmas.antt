@@ -2,6 +2,7 @@
 use Rattle.std.proofs.Common.{◌≡◌, ◌∙◌, ℕ, suc, ◌+◌, true, List, [], ◌∷◌, ◌++◌, length, map, Result, Ok, Err, ◌⊎◌, inl, inr, refl, sym, ap, arith}
 use Rattle.std.specs.Prelude.{IfErr}
 use Rattle.std.specs.List.{list_all}
+use Rattle.std.proofs.lemmas.Bool.{and_parts, and_from}
 use Rattle.ox_types.specs.declared.ended.LineRule.{LineRule}
 use Rattle.ox_types.specs.declared.ended.LineRule.TheVariants as rule
 use Rattle.ox_schedule.specs.declared.fault.ScheduleFault.{ScheduleFault}
@@ -13,7 +14,6 @@ use Rattle.ox_schedule.specs.declared.schedule.Schedule.{Schedule}
 use Rattle.ox_schedule.specs.Spelling.{is_event, event_line}
 use Rattle.ox_schedule.specs.Reading.{line_at}
 use Rattle.ox_schedule.specs.Schedule.{Answers, IsFaultOf, lines_of, places_of, is_first, first_line, at_line, event_then, events_at, first_at, schedule_with, behind_first, schedule_in, schedule_at, first_text, IsFirstBadLine}
-use Rattle.ox_schedule.proofs.Words.{both, two}
 use Rattle.ox_schedule.proofs.LineLemmas.{line_found, own_line}
 use Rattle.ox_schedule.proofs.ScheduleLemmas.{first_found, own_first}
 
@@ -49,7 +49,7 @@ events_bad p k (line ∷ lines) n r h = by_parts (line_at p line) (events_at p (
           events = e ∷ b.events;
           line = b.line;
           rest = b.rest;
-          lawful = two _ _ s.lawful b.lawful;
+          lawful = and_from _ _ s.lawful b.lawful;
           same = ap (λ (l : List ℕ). l ∷ lines) s.same ∙ ap (λ (ls : List (List ℕ)). event_line e ∷ ls) b.same;
           number_is = omega (arith, b.number_is);
           rule_is = b.rule_is;
@@ -58,7 +58,7 @@ events_bad p k (line ∷ lines) n r h = by_parts (line_at p line) (events_at p (
 events_broken : (p : Places) (k : ℕ) (es : List Event) (line : List ℕ) (rest : List (List ℕ)) (r : LineRule) → list_all (is_event p) es ≡ true → line_at p line ≡ Err r → events_at p k (map event_line es ++ line ∷ rest) ≡ Err (length es + k, r)
 events_broken p k [] line rest r h e = let none : k ≡ 0 + k = omega arith in rw e (ap (λ (n : ℕ). Err (n, r)) none)
 events_broken p k (x ∷ es) line rest r h e =
-    let b = both (is_event p x) _ h in
+    let b = and_parts (is_event p x) _ h in
     let number : length es + (k + 1) ≡ suc (length es) + k = omega arith in
     rw (own_line p x b.0, events_broken p (k + 1) es line rest r b.1 e) (ap (λ (n : ℕ). Err (n, r)) number)
 

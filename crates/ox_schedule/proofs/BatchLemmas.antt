@@ -2,7 +2,7 @@
 use Rattle.std.proofs.Common.{◌+◌, ◌≡◌, ◌∙◌, ◌<◌, ℕ, ◌++◌, Bool, true, false, not, ◌&&◌, eqb, cond, List, [], ◌∷◌, length, map, codes, Option, Some, None, Ok, inl, inr, refl, sym, ap, subst, arith, append_assoc}
 use Rattle.std.specs.Str.{bytes_eq}
 use Rattle.std.specs.List.{list_all, onto_first}
-use Rattle.std.proofs.lemmas.Bool.{eqb-true, ne_eqb}
+use Rattle.std.proofs.lemmas.Bool.{eqb-true, ne_eqb, and_parts, and_from}
 use Rattle.std.proofs.lemmas.Grind.{common_steps}
 use Rattle.std.proofs.lemmas.List.{append-nil, map-append}
 use Rattle.std.proofs.lemmas.List.Folds.{list_all-append}
@@ -21,7 +21,7 @@ use Rattle.ox_schedule.specs.Shape.{ops_in}
 use Rattle.ox_text.specs.Words.{spelt, value_word, lo_word, hi_word}
 use Rattle.ox_schedule.specs.Spelling.{is_empty, expect_words, session_words, deltas_words, entry_word, put_options, is_put, is_delete, is_range, put_op, delete_op, range_op, batch_ops, joined, are_lawful}
 use Rattle.ox_schedule.specs.Reading.{op_onto, ops_onto, batch_of, empty_batch, with_put, with_delete, with_range}
-use Rattle.ox_schedule.proofs.Words.{both, two, same_bytes, no_mark, some_word}
+use Rattle.ox_schedule.proofs.Words.{same_bytes, no_mark, some_word}
 use Rattle.ox_schedule.proofs.Steps.{bind_ok, chosen, word_is}
 use Rattle.ox_schedule.proofs.Fields.{no_items, put_is, put_again, delete_is, delete_again, range_is, range_again}
 
@@ -56,12 +56,12 @@ op_is b c ws h =
         | inl y ↦
             let p = bind_ok _ _ _ y.1 in
             let it : with_put b p.0 ≡ c = cc (p.2) in
-            let none = both (is_empty b.deletes) (is_empty b.ranges) y.0 in
+            let none = and_parts (is_empty b.deletes) (is_empty b.ranges) y.0 in
             let s = put_is w.0.1 p.0 p.1 in
             let op : ws ≡ put_op p.0 = verb_is ws w.0.0 _ w.0.1 _ word x.0 s.0 in
             subst (λ (q : WriteBatch). Adds b q (ws ∷ [])) it (record {
               words = put_last b.puts p.0 b.deletes b.ranges (no_items b.deletes none.0) (no_items b.ranges none.1) ∙ ap (λ (o : List (List ℕ)). batch_ops b ++ o ∷ []) (sym op);
-              lawful = λ l. let m = both _ _ l in let n = both _ _ m.0 in two _ _ (two _ _ (all_more is_put b.puts p.0 n.0 s.1) n.1) m.1;
+              lawful = λ l. let m = and_parts _ _ l in let n = and_parts _ _ m.0 in and_from _ _ (and_from _ _ (all_more is_put b.puts p.0 n.0 s.1) n.1) m.1;
             })
         | inr y ↦ absurd (cc (y.1))
       ]
@@ -74,7 +74,7 @@ op_is b c ws h =
               let op : ws ≡ delete_op d.0 = verb_is ws w.0.0 _ w.0.1 _ word x.0 s.0 in
               subst (λ (q : WriteBatch). Adds b q (ws ∷ [])) it (record {
                 words = delete_last b.puts b.deletes d.0 b.ranges (no_items b.ranges y.0) ∙ ap (λ (o : List (List ℕ)). batch_ops b ++ o ∷ []) (sym op);
-                lawful = λ l. let m = both _ _ l in let n = both _ _ m.0 in two _ _ (two _ _ n.0 (all_more is_delete b.deletes d.0 n.1 s.1)) m.1;
+                lawful = λ l. let m = and_parts _ _ l in let n = and_parts _ _ m.0 in and_from _ _ (and_from _ _ n.0 (all_more is_delete b.deletes d.0 n.1 s.1)) m.1;
               })
           | inr y ↦ absurd (cc (y.1))
         ]
@@ -86,7 +86,7 @@ op_is b c ws h =
               let op : ws ≡ range_op r.0 = verb_is ws w.0.0 _ w.0.1 _ word x.0 s.0 in
               subst (λ (q : WriteBatch). Adds b q (ws ∷ [])) it (record {
                 words = range_last b.puts b.deletes b.ranges r.0 ∙ ap (λ (o : List (List ℕ)). batch_ops b ++ o ∷ []) (sym op);
-                lawful = λ l. let m = both _ _ l in two _ _ m.0 (all_more is_range b.ranges r.0 m.1 s.1);
+                lawful = λ l. let m = and_parts _ _ l in and_from _ _ m.0 (all_more is_range b.ranges r.0 m.1 s.1);
               })
           | inr x ↦ absurd (cc (x.1))
         ]
@@ -141,21 +141,21 @@ batch_is ws b h =
     let a = ops_is empty_batch b (ops_in ws) h in
     let all : batch_ops b ≡ ops_in ws = a.words in
     let some : eqb (length (batch_ops b)) 0 ≡ false = ne_eqb (length (batch_ops b)) 0 (λ e. absurd (omega (arith, some_ops ws, ap length all))) in
-    (sym (joined_ops ws) ∙ ap joined (sym all), two _ _ (a.lawful refl) (ap not some))
+    (sym (joined_ops ws) ∙ ap joined (sym all), and_from _ _ (a.lawful refl) (ap not some))
 
 -- one operation by itself
 pub alone_is : (ws : List (List ℕ)) (b : WriteBatch) → op_onto empty_batch ws ≡ Ok b → (ws ≡ joined (batch_ops b)) × (are_lawful b && eqb (length (batch_ops b)) 1 ≡ true)
 alone_is ws b h =
     let a = op_is empty_batch b ws h in
     let all : batch_ops b ≡ ws ∷ [] = a.words in
-    (sym (ap joined all), two _ _ (a.lawful refl) (rw all refl))
+    (sym (ap joined all), and_from _ _ (a.lawful refl) (rw all refl))
 
 -- ---- what is written
 
 front_op : (op rest : List (List ℕ)) → list_all (λ w. not (bytes_eq w (codes "+"))) op ≡ true → ops_in (op ++ (codes "+" ∷ rest)) ≡ op ∷ ops_in rest
 front_op [] rest h = refl
 front_op (w ∷ op) rest h =
-    let x = both (not (bytes_eq w (codes "+"))) _ h in
+    let x = and_parts (not (bytes_eq w (codes "+"))) _ h in
     let other : bytes_eq w (codes "+") ≡ false = not_true (bytes_eq w (codes "+")) x.0 in
     rw other (ap (onto_first w) (front_op op rest x.1))
   where
@@ -166,7 +166,7 @@ front_op (w ∷ op) rest h =
 only_op : (op : List (List ℕ)) → list_all (λ w. not (bytes_eq w (codes "+"))) op ≡ true → ops_in op ≡ op ∷ []
 only_op [] h = refl
 only_op (w ∷ op) h =
-    let x = both (not (bytes_eq w (codes "+"))) _ h in
+    let x = and_parts (not (bytes_eq w (codes "+"))) _ h in
     let other : bytes_eq w (codes "+") ≡ false = not_true (bytes_eq w (codes "+")) x.0 in
     rw other (ap (onto_first w) (only_op op x.1))
   where
@@ -179,9 +179,9 @@ is_free op = list_all (λ w. not (bytes_eq w (codes "+"))) op
 
 pub ops_joined : (ops : List (List (List ℕ))) → 0 < length ops → list_all is_free ops ≡ true → ops_in (joined ops) ≡ ops
 ops_joined [] some h = absurd (omega arith)
-ops_joined (op ∷ []) some h = let x = both (is_free op) true h in only_op op x.0
+ops_joined (op ∷ []) some h = let x = and_parts (is_free op) true h in only_op op x.0
 ops_joined (op ∷ next ∷ ops) some h =
-    let x = both (is_free op) (list_all is_free (next ∷ ops)) h in
+    let x = and_parts (is_free op) (list_all is_free (next ∷ ops)) h in
     front_op op (joined (next ∷ ops)) x.0 ∙ ap (λ (t : List (List (List ℕ))). op ∷ t) (ops_joined (next ∷ ops) (omega arith) x.1)
 
 free_key : (key : List ℕ) → bytes_eq (spelt key) (codes "+") ≡ false
@@ -222,7 +222,7 @@ free_entries [] = refl
 free_entries (e ∷ es) = free_entries es
 
 free_both : (a b : List (List ℕ)) → is_free a ≡ true → is_free b ≡ true → is_free (a ++ b) ≡ true
-free_both a b h k = list_all-append (λ w. not (bytes_eq w (codes "+"))) a b ∙ two _ _ h k
+free_both a b h k = list_all-append (λ w. not (bytes_eq w (codes "+"))) a b ∙ and_from _ _ h k
 
 free_options : (p : Put) → is_free (put_options p) ≡ true
 free_options p =
@@ -250,27 +250,27 @@ puts_again : (ps qs : List Put) (more : List (List (List ℕ))) → list_all is_
 unfolding op_onto
 puts_again ps [] more h = rw (append-nil ps) refl
 puts_again ps (q ∷ qs) more h =
-    let x = both (is_put q) (list_all is_put qs) h in
+    let x = and_parts (is_put q) (list_all is_put qs) h in
     rw (put_again q x.0) (puts_again (ps ++ q ∷ []) qs more x.1 ∙ ap (λ (t : List Put). ops_onto (record { puts = t; deletes = []; ranges = [] }) more) (append_assoc ps (q ∷ []) qs))
 
 deletes_again : (ps : List Put) (ds es : List Delete) (more : List (List (List ℕ))) → list_all is_delete es ≡ true → ops_onto (record { puts = ps; deletes = ds; ranges = [] }) (map delete_op es ++ more) ≡ ops_onto (record { puts = ps; deletes = ds ++ es; ranges = [] }) more
 unfolding op_onto
 deletes_again ps ds [] more h = rw (append-nil ds) refl
 deletes_again ps ds (e ∷ es) more h =
-    let x = both (is_delete e) (list_all is_delete es) h in
+    let x = and_parts (is_delete e) (list_all is_delete es) h in
     rw (delete_again e x.0) (deletes_again ps (ds ++ e ∷ []) es more x.1 ∙ ap (λ (t : List Delete). ops_onto (record { puts = ps; deletes = t; ranges = [] }) more) (append_assoc ds (e ∷ []) es))
 
 ranges_again : (ps : List Put) (ds : List Delete) (rs qs : List KeyRange) → list_all is_range qs ≡ true → ops_onto (record { puts = ps; deletes = ds; ranges = rs }) (map range_op qs) ≡ Ok (record { puts = ps; deletes = ds; ranges = rs ++ qs })
 unfolding op_onto
 ranges_again ps ds rs [] h = rw (append-nil rs) refl
 ranges_again ps ds rs (q ∷ qs) h =
-    let x = both (is_range q) (list_all is_range qs) h in
+    let x = and_parts (is_range q) (list_all is_range qs) h in
     rw (range_again q x.0) (ranges_again ps ds (rs ++ q ∷ []) qs x.1 ∙ ap (λ (t : List KeyRange). Ok (record { puts = ps; deletes = ds; ranges = t })) (append_assoc rs (q ∷ []) qs))
 
 ops_again : (b : WriteBatch) → are_lawful b ≡ true → ops_onto empty_batch (batch_ops b) ≡ Ok b
 ops_again b h =
-    let m = both _ _ h in
-    let n = both _ _ m.0 in
+    let m = and_parts _ _ h in
+    let n = and_parts _ _ m.0 in
     ap (ops_onto empty_batch) (append_assoc (map put_op b.puts) (map delete_op b.deletes) (map range_op b.ranges))
     ∙ puts_again [] b.puts (map delete_op b.deletes ++ map range_op b.ranges) n.0
     ∙ deletes_again b.puts [] b.deletes (map range_op b.ranges) n.1
@@ -290,8 +290,8 @@ batch_again b h k = rw (batch_split b k) (ops_again b h)
 -- a batch of one operation is a put, a delete or a range
 pub alone_cases : (P : WriteBatch → Type 0) → ((p : Put) → is_put p ≡ true → P (with_put empty_batch p)) → ((d : Delete) → is_delete d ≡ true → P (with_delete empty_batch d)) → ((r : KeyRange) → is_range r ≡ true → P (with_range empty_batch r)) → (b : WriteBatch) → are_lawful b ≡ true → eqb (length (batch_ops b)) 1 ≡ true → P b
 alone_cases P put delete range b h one =
-    let m = both _ _ h in
-    let n = both _ _ m.0 in
+    let m = and_parts _ _ h in
+    let n = and_parts _ _ m.0 in
     by_lists b.puts b.deletes b.ranges n.0 n.1 m.1 (count b.puts b.deletes b.ranges (eqb-true (length (batch_ops b)) 1 one))
   where
     count : (ps : List Put) (ds : List Delete) (rs : List KeyRange) → length ((map put_op ps ++ map delete_op ds) ++ map range_op rs) ≡ 1 → length ps + length ds + length rs ≡ 1
@@ -299,9 +299,9 @@ alone_cases P put delete range b h one =
 
     by_lists : (ps : List Put) (ds : List Delete) (rs : List KeyRange) → list_all is_put ps ≡ true → list_all is_delete ds ≡ true → list_all is_range rs ≡ true → length ps + length ds + length rs ≡ 1 → P (record { puts = ps; deletes = ds; ranges = rs })
     by_lists [] [] [] p d r e = absurd cc
-    by_lists (x ∷ []) [] [] p d r e = put x (both (is_put x) true p).0
-    by_lists [] (x ∷ []) [] p d r e = delete x (both (is_delete x) true d).0
-    by_lists [] [] (x ∷ []) p d r e = range x (both (is_range x) true r).0
+    by_lists (x ∷ []) [] [] p d r e = put x (and_parts (is_put x) true p).0
+    by_lists [] (x ∷ []) [] p d r e = delete x (and_parts (is_delete x) true d).0
+    by_lists [] [] (x ∷ []) p d r e = range x (and_parts (is_range x) true r).0
     by_lists (x ∷ y ∷ ps) ds rs p d r e = absurd (omega arith)
     by_lists (x ∷ []) (y ∷ ds) rs p d r e = absurd (omega arith)
     by_lists (x ∷ []) [] (y ∷ rs) p d r e = absurd (omega arith)

@@ -1,6 +1,7 @@
 -- An event that is read is the one that was written, and the other way round.
 use Rattle.std.proofs.Common.{◌≡◌, ◌∙◌, ℕ, true, ◌&&◌, cond, List, [], ◌∷◌, codes, decimal, Ok, Err, inl, inr, refl, ap, subst}
 use Rattle.std.specs.Str.{bytes_eq}
+use Rattle.std.proofs.lemmas.Bool.{and_parts, and_from}
 use Rattle.ox_types.specs.declared.ended.LineRule.TheVariants as rule
 use Rattle.ox_wire.specs.declared.event.Image.{Image}
 use Rattle.ox_wire.specs.declared.event.Image.TheVariants as image
@@ -12,7 +13,7 @@ use Rattle.ox_schedule.specs.Outcome.{◌>>=◌}
 use Rattle.ox_schedule.specs.Shape.{event_fits, is_image}
 use Rattle.ox_schedule.specs.Spelling.{is_number, is_call, is_term, names_node, is_seat, is_event, image_word, turn_words, event_words}
 use Rattle.ox_schedule.specs.Reading.{word_at, number_of, single_of, call_at, image_of, cut_of, node_of, term_of, seat_of, event_of}
-use Rattle.ox_schedule.proofs.Words.{both, two, same_bytes, number_is, number_again}
+use Rattle.ox_schedule.proofs.Words.{same_bytes, number_is, number_again}
 use Rattle.ox_schedule.proofs.Steps.{bind_ok, chosen, then, word_is, options_end_is}
 use Rattle.ox_schedule.proofs.Fields.{single_is, single_again}
 use Rattle.ox_schedule.proofs.BatchLemmas.{verb_is}
@@ -35,7 +36,7 @@ call_is ws x h =
 
 call_again : (n : ℕ) (ws : List (List ℕ)) → is_number n && is_call n ≡ true → call_at (decimal n ∷ ws) ≡ Ok (n, ws)
 unfolding call_at
-call_again n ws h = let x = both (is_number n) (is_call n) h in rw (number_again n x.0, x.1) refl
+call_again n ws h = let x = and_parts (is_number n) (is_call n) h in rw (number_again n x.0, x.1) refl
 
 image_is : (w : List ℕ) (i : Image) → image_of w ≡ Ok i → w ≡ image_word i
 unfolding image_of
@@ -73,7 +74,7 @@ cut_is places ws e h =
     let it : event.Cut c.0.0 i.0 t.0 ≡ e = cc (t.2) in
     let words : ws ≡ decimal c.0.0 ∷ image_word i.0 ∷ turn_words t.0 = then ws _ _ _ call.0 (then c.0.1 _ _ _ (word_is c.0.1 w.0 w.1 ∙ ap (λ (v : List ℕ). v ∷ w.0.1) left) taken.0) in
     subst (λ (q : Event). IsSpelt places (codes "cut" ∷ ws) q) it
-    (ap (λ (t : List (List ℕ)). codes "cut" ∷ t) words, two _ _ (two _ _ call.1 call.2) taken.1)
+    (ap (λ (t : List (List ℕ)). codes "cut" ∷ t) words, and_from _ _ (and_from _ _ call.1 call.2) taken.1)
 
 -- ---- nodes and terms
 
@@ -85,7 +86,7 @@ node_of_is places ws n h =
     let node = node_is places ws a.0 a.1 in
     let end : a.0.1 ≡ [] = options_end_is a.0.1 e.0 e.1 in
     let it : a.0.0 ≡ n = cc (e.2) in
-    (rw (← it) (then ws _ _ _ node.0 end), rw (← it) (two _ _ node.1 node.2))
+    (rw (← it) (then ws _ _ _ node.0 end), rw (← it) (and_from _ _ node.1 node.2))
 
 node_of_again : (places : Places) (n : ℕ) → names_node places n ≡ true → node_of places (decimal n ∷ []) ≡ Ok n
 unfolding node_of
@@ -99,13 +100,13 @@ term_is ws n h =
       | inl y ↦
           let it : a.0 ≡ n = cc (y.1) in
           let s = single_is ws a.0 a.1 in
-          subst (λ (q : ℕ). (ws ≡ decimal q ∷ []) × (is_number q && is_term q ≡ true)) it (s.0, two _ _ s.1 y.0)
+          subst (λ (q : ℕ). (ws ≡ decimal q ∷ []) × (is_number q && is_term q ≡ true)) it (s.0, and_from _ _ s.1 y.0)
       | inr y ↦ absurd (cc (y.1))
     ]
 
 term_again : (n : ℕ) → is_number n && is_term n ≡ true → term_of (decimal n ∷ []) ≡ Ok n
 unfolding term_of
-term_again n h = let x = both (is_number n) (is_term n) h in rw (single_again n x.0, x.1) refl
+term_again n h = let x = and_parts (is_number n) (is_term n) h in rw (single_again n x.0, x.1) refl
 
 seat_is : (places : Places) (ws : List (List ℕ)) (x : ℕ × ℕ × ℕ) → seat_of places ws ≡ Ok x → (ws ≡ decimal x.0 ∷ decimal x.1 ∷ decimal x.2 ∷ []) × (is_seat places x.0 x.1 x.2 ≡ true)
 unfolding seat_of
@@ -119,13 +120,13 @@ seat_is places ws x h =
     let it : (n.0.0, s.0.0, t.0) ≡ x = cc (t.2) in
     let words : ws ≡ decimal n.0.0 ∷ decimal s.0.0 ∷ decimal t.0 ∷ [] = then ws _ _ _ node.0 (then n.0.1 _ _ _ shard.0 term.0) in
     subst (λ (q : ℕ × ℕ × ℕ). (ws ≡ decimal q.0 ∷ decimal q.1 ∷ decimal q.2 ∷ []) × (is_seat places q.0 q.1 q.2 ≡ true)) it
-    (words, two _ _ (two _ _ (two _ _ node.1 node.2) (two _ _ shard.1 shard.2)) term.1)
+    (words, and_from _ _ (and_from _ _ (and_from _ _ node.1 node.2) (and_from _ _ shard.1 shard.2)) term.1)
 
 seat_again : (places : Places) (node shard term : ℕ) → is_seat places node shard term ≡ true → seat_of places (decimal node ∷ decimal shard ∷ decimal term ∷ []) ≡ Ok (node, shard, term)
 unfolding seat_of
 seat_again places node shard term h =
-    let a = both _ _ h in
-    let b = both _ _ a.0 in
+    let a = and_parts _ _ h in
+    let b = and_parts _ _ a.0 in
     rw (node_again places node (decimal shard ∷ decimal term ∷ []) b.0, shard_again places shard (decimal term ∷ []) b.1, term_again term a.1) refl
 
 -- ---- events
@@ -186,7 +187,7 @@ event_again places (event.Takes (Client node shard r)) h = rw (turn_again places
 event_again places (event.Takes (Deliver message)) h = rw (turn_again places (Deliver message) h) refl
 event_again places (event.Takes (Tick node shard ms)) h = rw (turn_again places (Tick node shard ms) h) refl
 event_again places (event.Cut call i t) h =
-    let x = both _ _ h in
+    let x = and_parts _ _ h in
     rw (call_again call (image_word i ∷ turn_words t) x.0, image_again i, turn_again places t x.1) refl
 event_again places (event.Stop node) h = rw (node_of_again places node h) refl
 event_again places (event.Start node) h = rw (node_of_again places node h) refl
@@ -206,7 +207,7 @@ unfolding event_fits
 event_has_shape places (event.Takes (Client node shard r)) h = turn_has_shape places (Client node shard r) h
 event_has_shape places (event.Takes (Deliver message)) h = turn_has_shape places (Deliver message) h
 event_has_shape places (event.Takes (Tick node shard ms)) h = turn_has_shape places (Tick node shard ms) h
-event_has_shape places (event.Cut call i t) h = two _ _ (image_has_shape i) (turn_has_shape places t (both _ _ h).1)
+event_has_shape places (event.Cut call i t) h = and_from _ _ (image_has_shape i) (turn_has_shape places t (and_parts _ _ h).1)
 event_has_shape places (event.Stop node) h = refl
 event_has_shape places (event.Start node) h = refl
 event_has_shape places (event.Lose node) h = refl

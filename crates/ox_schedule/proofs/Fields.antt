@@ -2,7 +2,7 @@
 use Rattle.std.proofs.Common.{suc, length, map, ◌≡◌, ◌∙◌, ℕ, ◌++◌, true, ◌&&◌, List, [], ◌∷◌, codes, decimal, Ok, Option, Some, None, inl, inr, refl, sym, ap, subst, arith}
 use Rattle.std.specs.List.{list_all}
 use Rattle.std.specs.Str.{bytes_eq}
-use Rattle.std.proofs.lemmas.Bool.{eqb-true}
+use Rattle.std.proofs.lemmas.Bool.{eqb-true, and_parts, and_from}
 use Rattle.std.proofs.lemmas.List.{append-nil}
 use Rattle.ox_ops.specs.declared.write.Put.{Put}
 use Rattle.ox_ops.specs.declared.write.Delete.{Delete}
@@ -19,7 +19,7 @@ use Rattle.ox_ops.specs.declared.query.Compare.TheVariants.{Equal, Floor, Ceilin
 use Rattle.ox_ops.specs.declared.query.ShardQuery.{ShardQuery}
 use Rattle.ox_ops.specs.declared.query.ShardQuery.TheVariants as query
 use Rattle.ox_schedule.specs.Reading.{after, word_at, key_of, key_at, value_of, value_at, number_of, number_at, single_of, notices_of, expect_at, entry_option, put_of, delete_of, lo_given, lo_of, hi_of, range_at, range_of, ends_of, compare_of, get_of}
-use Rattle.ox_schedule.proofs.Words.{both, two, same_bytes, no_mark, not_star, key_is, key_again, value_is, value_again, number_is, number_again}
+use Rattle.ox_schedule.proofs.Words.{same_bytes, no_mark, not_star, key_is, key_again, value_is, value_again, number_is, number_again}
 use Rattle.ox_schedule.proofs.Steps.{after_is, after_none, bind_ok, chosen, then, last, word_is, options_end_is}
 use Rattle.ox_schedule.proofs.OptionLemmas.{each_is, each_again, expect_at_is, expect_again, session_at_is, session_again, deltas_at_is, deltas_again, entry_option_is, entry_option_again, index_is, index_again, Skips, skips_entries, skips_deltas, skips_session}
 
@@ -75,11 +75,11 @@ notices_is ws q h =
     let skip = single_is a.0.1 s.0 s.1 in
     let it : query.Notices a.0.0 s.0 ≡ q = cc (s.2) in
     let words : ws ≡ decimal a.0.0 ∷ decimal s.0 ∷ [] = then ws _ _ _ past.0 skip.0 in
-    subst (λ (r : ShardQuery). (codes "notices" ∷ ws ≡ query_words r) × (is_query r ≡ true)) it (ap (λ (t : List (List ℕ)). codes "notices" ∷ t) words, two _ _ past.1 skip.1)
+    subst (λ (r : ShardQuery). (codes "notices" ∷ ws ≡ query_words r) × (is_query r ≡ true)) it (ap (λ (t : List (List ℕ)). codes "notices" ∷ t) words, and_from _ _ past.1 skip.1)
 
 pub notices_again : (past skip : ℕ) → is_number past && is_number skip ≡ true → notices_of (decimal past ∷ decimal skip ∷ []) ≡ Ok (query.Notices past skip)
 unfolding notices_of number_at
-notices_again past skip h = let x = both (is_number past) (is_number skip) h in rw (number_again past x.0, single_again skip x.1) refl
+notices_again past skip h = let x = and_parts (is_number past) (is_number skip) h in rw (number_again past x.0, single_again skip x.1) refl
 
 -- ---- put
 
@@ -104,7 +104,7 @@ put_is ws p h =
     let options : v.0.1 ≡ expect_words e.0.0 ++ (session_words s.0.0 ++ (deltas_words d.0.0 ++ map entry_word i.0)) = expect.0 ∙ ap (λ (t : List (List ℕ)). expect_words e.0.0 ++ t) three in
     let words : ws ≡ spelt k.0.0 ∷ value_word v.0.0 ∷ (expect_words e.0.0 ++ (session_words s.0.0 ++ (deltas_words d.0.0 ++ map entry_word i.0))) = then ws _ _ _ key.0 (then k.0.1 _ _ _ value.0 options) in
     subst (λ (q : Put). (ws ≡ put_words q) × (is_put q ≡ true)) it
-    (words, two _ _ (two _ _ key.1 value.1) (two _ _ (two _ _ (two _ _ expect.1 session.1) deltas.1) entries.1))
+    (words, and_from _ _ (and_from _ _ key.1 value.1) (and_from _ _ (and_from _ _ (and_from _ _ expect.1 session.1) deltas.1) entries.1))
 
 pub no_items : {A : Type 0} (xs : List A) → is_empty xs ≡ true → xs ≡ []
 no_items [] h = refl
@@ -121,11 +121,11 @@ pub record PutParts (p : Put) : Type 0 where
 
 pub put_parts : (p : Put) → is_put p ≡ true → PutParts p
 put_parts p h =
-    let a = both (is_key p.key && is_value p.value) (are_options p) h in
-    let b = both (is_key p.key) (is_value p.value) a.0 in
-    let c = both (is_expect p.expect && is_session p.session && list_all is_number p.deltas) (list_all is_entry p.indexes) a.1 in
-    let d = both (is_expect p.expect && is_session p.session) (list_all is_number p.deltas) c.0 in
-    let e = both (is_expect p.expect) (is_session p.session) d.0 in
+    let a = and_parts (is_key p.key && is_value p.value) (are_options p) h in
+    let b = and_parts (is_key p.key) (is_value p.value) a.0 in
+    let c = and_parts (is_expect p.expect && is_session p.session && list_all is_number p.deltas) (list_all is_entry p.indexes) a.1 in
+    let d = and_parts (is_expect p.expect && is_session p.session) (list_all is_number p.deltas) c.0 in
+    let e = and_parts (is_expect p.expect) (is_session p.session) d.0 in
     record { key = b.0; value = b.1; expect = e.0; session = e.1; deltas = d.1; entries = c.1 }
 
 pub put_again : (p : Put) → is_put p ≡ true → put_of (put_words p) ≡ Ok p
@@ -160,12 +160,12 @@ delete_is ws d h =
     let end : e.0.1 ≡ [] = options_end_is e.0.1 n.0 n.1 in
     let it : record { key = k.0.0; expect = e.0.0 } ≡ d = cc (n.2) in
     let words : ws ≡ spelt k.0.0 ∷ expect_words e.0.0 = then ws _ _ _ key.0 (last k.0.1 _ _ expect.0 end) in
-    subst (λ (q : Delete). (ws ≡ delete_words q) × (is_delete q ≡ true)) it (words, two _ _ key.1 expect.1)
+    subst (λ (q : Delete). (ws ≡ delete_words q) × (is_delete q ≡ true)) it (words, and_from _ _ key.1 expect.1)
 
 pub delete_again : (d : Delete) → is_delete d ≡ true → delete_of (delete_words d) ≡ Ok d
 unfolding delete_of key_at
 delete_again d h =
-    let x = both (is_key d.key) (is_expect d.expect) h in
+    let x = and_parts (is_key d.key) (is_expect d.expect) h in
     let expect : expect_at (expect_words d.expect) ≡ Ok (d.expect, []) = ap expect_at (sym (append-nil (expect_words d.expect))) ∙ expect_again d.expect [] tt x.1 in
     rw (key_again d.key x.0, expect) refl
 
@@ -223,12 +223,12 @@ range_at_is ws x h =
     let second = hi_is b.0.0 hi.0 hi.1 in
     let it : (record { lo = lo.0; hi = hi.0 }, b.0.1) ≡ x = cc (hi.2) in
     let words : ws ≡ lo_word lo.0 ∷ hi_word hi.0 ∷ b.0.1 = then ws _ _ _ (word_is ws a.0 a.1 ∙ ap (λ (w : List ℕ). w ∷ a.0.1) first.0) (word_is a.0.1 b.0 b.1 ∙ ap (λ (w : List ℕ). w ∷ b.0.1) second.0) in
-    subst (λ (q : KeyRange × List (List ℕ)). (ws ≡ range_words q.0 ++ q.1) × (is_range q.0 ≡ true)) it (words, two _ _ first.1 second.1)
+    subst (λ (q : KeyRange × List (List ℕ)). (ws ≡ range_words q.0 ++ q.1) × (is_range q.0 ≡ true)) it (words, and_from _ _ first.1 second.1)
 
 pub range_at_again : (r : KeyRange) (rest : List (List ℕ)) → is_range r ≡ true → range_at (range_words r ++ rest) ≡ Ok (r, rest)
 unfolding range_at
 range_at_again r rest h =
-    let x = both (is_lo r.lo) (is_hi r.hi) h in
+    let x = and_parts (is_lo r.lo) (is_hi r.hi) h in
     rw (lo_again r.lo x.0, hi_again r.hi x.1) refl
 
 pub range_is : (ws : List (List ℕ)) (r : KeyRange) → range_of ws ≡ Ok r → (ws ≡ range_words r) × (is_range r ≡ true)
@@ -254,12 +254,12 @@ ends_is ws x h =
     let t = index_is a.0.1 b.0 b.1 in
     let it : (a.0.0, b.0) ≡ x = cc (b.2) in
     subst (λ (q : KeyRange × Option (List ℕ)). (ws ≡ range_words q.0 ++ by_words q.1) × (is_range q.0 && is_by q.1 ≡ true)) it
-    (s.0 ∙ ap (λ (t : List (List ℕ)). range_words a.0.0 ++ t) t.0, two _ _ s.1 t.1)
+    (s.0 ∙ ap (λ (t : List (List ℕ)). range_words a.0.0 ++ t) t.0, and_from _ _ s.1 t.1)
 
 pub ends_again : (r : KeyRange) (by : Option (List ℕ)) → is_range r && is_by by ≡ true → ends_of (range_words r ++ by_words by) ≡ Ok (r, by)
 unfolding ends_of
 ends_again r by h =
-    let x = both (is_range r) (is_by by) h in
+    let x = and_parts (is_range r) (is_by by) h in
     rw (range_at_again r (by_words by) x.0, index_again by x.1) refl
 
 -- ---- get
@@ -304,8 +304,8 @@ get_is ws q h =
     let by = index_is k.0.1 b.0 b.1 in
     let it : query.Get c.0 k.0.0 b.0 ≡ q = cc (b.2) in
     let words : ws ≡ compare_word c.0 ∷ spelt k.0.0 ∷ by_words b.0 = then ws _ _ _ (word_is ws a.0 a.1 ∙ ap (λ (w : List ℕ). w ∷ a.0.1) first) (then a.0.1 _ _ _ key.0 by.0) in
-    subst (λ (r : ShardQuery). (codes "get" ∷ ws ≡ query_words r) × (is_query r ≡ true)) it (ap (λ (t : List (List ℕ)). codes "get" ∷ t) words, two _ _ key.1 by.1)
+    subst (λ (r : ShardQuery). (codes "get" ∷ ws ≡ query_words r) × (is_query r ≡ true)) it (ap (λ (t : List (List ℕ)). codes "get" ∷ t) words, and_from _ _ key.1 by.1)
 
 pub get_again : (c : Compare) (key : List ℕ) (by : Option (List ℕ)) → is_key key && is_by by ≡ true → get_of (compare_word c ∷ spelt key ∷ by_words by) ≡ Ok (query.Get c key by)
 unfolding get_of key_at
-get_again c key by h = let x = both (is_key key) (is_by by) h in rw (compare_again c, key_again key x.0, index_again by x.1) refl
+get_again c key by h = let x = and_parts (is_key key) (is_by by) h in rw (compare_again c, key_again key x.0, index_again by x.1) refl

@@ -2,10 +2,9 @@
 use Rattle.std.proofs.Common.{◌≡◌, ◌∙◌, ℕ, ◌<◌, Bool, true, false, not, eqb, List, [], ◌∷◌, ◌++◌, length, refl, sym, ap, arith}
 use Rattle.std.specs.List.{list_all, onto_first, slice_split, join_with_byte}
 use Rattle.std.proofs.lemmas.Bool.Decides.{nat_tests}
-use Rattle.std.proofs.lemmas.Bool.{eq-eqb}
+use Rattle.std.proofs.lemmas.Bool.{eq-eqb, and_parts, and_from}
 use Rattle.std.proofs.lemmas.List.Splits.{join_with_byte-slice_split}
 use Rattle.ox_schedule.specs.Spelling.{is_printable, is_word, words_of}
-use Rattle.ox_schedule.proofs.Words.{both, two}
 
 -- ---- parts without the byte that stands between two
 
@@ -23,17 +22,17 @@ other false h = refl
 
 first_split : (c : ℕ) (w rest : List ℕ) → lacks c w ≡ true → parts_of c (w ++ c ∷ rest) ≡ w ∷ parts_of c rest
 first_split c [] rest h = let same : eqb c c ≡ true = eq-eqb c c refl in rw same refl
-first_split c (b ∷ w) rest h = let x = both (not (eqb b c)) _ h in rw (other (eqb b c) x.0) (ap (onto_first b) (first_split c w rest x.1))
+first_split c (b ∷ w) rest h = let x = and_parts (not (eqb b c)) _ h in rw (other (eqb b c) x.0) (ap (onto_first b) (first_split c w rest x.1))
 
 last_split : (c : ℕ) (w : List ℕ) → lacks c w ≡ true → parts_of c w ≡ w ∷ []
 last_split c [] h = refl
-last_split c (b ∷ w) h = let x = both (not (eqb b c)) _ h in rw (other (eqb b c) x.0) (ap (onto_first b) (last_split c w x.1))
+last_split c (b ∷ w) h = let x = and_parts (not (eqb b c)) _ h in rw (other (eqb b c) x.0) (ap (onto_first b) (last_split c w x.1))
 
 pub parts_joined : (c : ℕ) (ws : List (List ℕ)) → 0 < length ws → list_all (lacks c) ws ≡ true → parts_of c (join_with_byte c ws) ≡ ws
 parts_joined c [] some h = absurd (omega arith)
-parts_joined c (w ∷ []) some h = let x = both (lacks c w) true h in last_split c w x.0
+parts_joined c (w ∷ []) some h = let x = and_parts (lacks c w) true h in last_split c w x.0
 parts_joined c (w ∷ next ∷ ws) some h =
-    let x = both (lacks c w) (list_all (lacks c) (next ∷ ws)) h in
+    let x = and_parts (lacks c w) (list_all (lacks c) (next ∷ ws)) h in
     first_split c w (join_with_byte c (next ∷ ws)) x.0
     ∙ ap (λ (t : List (List ℕ)). w ∷ t) (parts_joined c (next ∷ ws) (omega arith) x.1)
 
@@ -44,11 +43,11 @@ not_space b h = grind (arith, nat_tests)
 
 no_space : (w : List ℕ) → list_all is_printable w ≡ true → lacks 32 w ≡ true
 no_space [] h = refl
-no_space (b ∷ w) h = let x = both (is_printable b) _ h in two _ _ (not_space b x.0) (no_space w x.1)
+no_space (b ∷ w) h = let x = and_parts (is_printable b) _ h in and_from _ _ (not_space b x.0) (no_space w x.1)
 
 no_spaces : (ws : List (List ℕ)) → list_all is_word ws ≡ true → list_all (lacks 32) ws ≡ true
 no_spaces [] h = refl
-no_spaces (w ∷ ws) h = let x = both (is_word w) _ h in two _ _ (no_space w (both _ (list_all is_printable w) x.0).1) (no_spaces ws x.1)
+no_spaces (w ∷ ws) h = let x = and_parts (is_word w) _ h in and_from _ _ (no_space w (and_parts _ (list_all is_printable w) x.0).1) (no_spaces ws x.1)
 
 -- words with one space between two are the words of that line
 pub words_joined : (ws : List (List ℕ)) → 0 < length ws → list_all is_word ws ≡ true → words_of (join_with_byte 32 ws) ≡ ws

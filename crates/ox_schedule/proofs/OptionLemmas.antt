@@ -5,7 +5,7 @@ use Rattle.std.specs.Str.{bytes_eq}
 use Rattle.std.specs.Str.Parse.{AllDigits}
 use Rattle.std.proofs.lemmas.Fmt.{decimal_is_IsNumeral}
 use Rattle.std.proofs.lemmas.Bool.Decides.{Decides-ltb}
-use Rattle.std.proofs.lemmas.Bool.{eqb-true}
+use Rattle.std.proofs.lemmas.Bool.{eqb-true, and_parts, and_from}
 use Rattle.std.proofs.lemmas.Grind.{common_steps}
 use Rattle.std.proofs.lemmas.List.{length-map}
 use Rattle.std.proofs.lemmas.List.Sums.{fails_before_first}
@@ -18,7 +18,7 @@ use Rattle.ox_schedule.specs.Outcome.{◌>>=◌}
 use Rattle.ox_text.specs.Words.{spelt}
 use Rattle.ox_schedule.specs.Spelling.{is_key, is_name, is_number, is_expect, expect_words, is_session, session_words, numbers_text, deltas_words, is_entry, entry_word, is_by, by_words}
 use Rattle.ox_schedule.specs.Reading.{after, name_of, number_of, each_of, expect_of, session_of, deltas_of, by_of, onto_name, at_colon, entry_in, entry_of, entry_given, entry_option, option_given, option_at, expect_at, session_at, deltas_at, by_at, index_of, options_end}
-use Rattle.ox_schedule.proofs.Words.{both, two, same_bytes, key_is, key_again, name_is, name_again, number_is, number_again}
+use Rattle.ox_schedule.proofs.Words.{same_bytes, key_is, key_again, name_is, name_again, number_is, number_again}
 use Rattle.ox_schedule.proofs.JoinLemmas.{lacks, parts_of, parts_joined}
 use Rattle.ox_schedule.proofs.Marks.{spelt_lacks, number_lacks}
 use Rattle.ox_schedule.proofs.Steps.{after_append, after_is, bind_ok, chosen, ok_pair, last, options_end_is}
@@ -34,11 +34,11 @@ each_is {A} read spell lawful one (w ∷ ws) xs h =
     let first = one w x.0 x.1 in
     let others = each_is read spell lawful one ws more.0 more.1 in
     subst (λ (ys : List A). (w ∷ ws ≡ map spell ys) × (list_all lawful ys ≡ true)) it
-    (ap (λ (v : List ℕ). v ∷ ws) first.0 ∙ ap (λ (t : List (List ℕ)). spell x.0 ∷ t) others.0, two _ _ first.1 others.1)
+    (ap (λ (v : List ℕ). v ∷ ws) first.0 ∙ ap (λ (t : List (List ℕ)). spell x.0 ∷ t) others.0, and_from _ _ first.1 others.1)
 
 pub each_again : {A : Type 0} (read : List ℕ → Result A LineRule) (spell : A → List ℕ) (lawful : A → Bool) → ((x : A) → lawful x ≡ true → read (spell x) ≡ Ok x) → (xs : List A) → list_all lawful xs ≡ true → each_of read (map spell xs) ≡ Ok xs
 each_again read spell lawful one [] h = refl
-each_again read spell lawful one (x ∷ xs) h = let p = both (lawful x) _ h in rw (one x p.0, each_again read spell lawful one xs p.1) refl
+each_again read spell lawful one (x ∷ xs) h = let p = and_parts (lawful x) _ h in rw (one x p.0, each_again read spell lawful one xs p.1) refl
 
 -- what is read behind what is read already
 abbrev pub behind : {A : Type 0} → List A → Result (List A) LineRule → Result (List A) LineRule
@@ -167,7 +167,7 @@ deltas_at_is ws ds rest h = option_is (codes "seq=") deltas_of [] deltas_words (
 
 numbers_lack : (ds : List ℕ) → list_all is_number ds ≡ true → list_all (lacks 44) (map decimal ds) ≡ true
 numbers_lack [] h = refl
-numbers_lack (d ∷ ds) h = let x = both (is_number d) _ h in two _ _ (number_lacks d ((Decides-ltb d (2 ^ 64)).0 x.0)) (numbers_lack ds x.1)
+numbers_lack (d ∷ ds) h = let x = and_parts (is_number d) _ h in and_from _ _ (number_lacks d ((Decides-ltb d (2 ^ 64)).0 x.0)) (numbers_lack ds x.1)
 
 all_deltas : (d : ℕ) (ds : List ℕ) → list_all is_number (d ∷ ds) ≡ true → deltas_of (numbers_text (d ∷ ds)) ≡ Ok (d ∷ ds)
 unfolding deltas_of
@@ -216,7 +216,7 @@ colon_none text e = no_colon text (λ k h. none k h)
 colon_again : (name key : List ℕ) → lacks 58 name ≡ true → at_colon (name ++ 58 ∷ key) ≡ Some (name, key)
 colon_again [] key h = refl
 colon_again (b ∷ name) key h =
-    let x = both (not (eqb b 58)) _ h in
+    let x = and_parts (not (eqb b 58)) _ h in
     let it : eqb b 58 ≡ false = other (eqb b 58) x.0 in
     rw it (ap (onto_name b) (colon_again name key x.1))
   where
@@ -237,7 +237,7 @@ entry_is w e h = by_colon (at_colon w) (colon_is w) h
         let key = key_is x.1 k.0 k.1 in
         let name = name_is x.0 n.0 n.1 in
         let text : w ≡ spelt n.0 ++ 58 ∷ spelt k.0 = known x refl ∙ ap (λ (v : List ℕ). v ++ 58 ∷ x.1) name.0 ∙ ap (λ (v : List ℕ). spelt n.0 ++ 58 ∷ v) key.0 in
-        subst (λ (q : IndexEntry). (w ≡ spelt q.name ++ (codes ":" ++ spelt q.key)) × (is_entry q ≡ true)) it (text, two _ _ name.1 key.1)
+        subst (λ (q : IndexEntry). (w ≡ spelt q.name ++ (codes ":" ++ spelt q.key)) × (is_entry q ≡ true)) it (text, and_from _ _ name.1 key.1)
 
 pub entry_option_is : (w : List ℕ) (e : IndexEntry) → entry_option w ≡ Ok e → (w ≡ entry_word e) × (is_entry e ≡ true)
 unfolding entry_option
@@ -252,7 +252,7 @@ entry_option_is w e h = by_text (after (codes "index=") w) (λ text. after_is (c
 entry_again : (e : IndexEntry) → is_entry e ≡ true → entry_of (spelt e.name ++ (codes ":" ++ spelt e.key)) ≡ Ok e
 unfolding entry_of
 entry_again e h =
-    let x = both (is_name e.name) (is_key e.key) h in
+    let x = and_parts (is_name e.name) (is_key e.key) h in
     rw (colon_again (spelt e.name) (spelt e.key) (spelt_lacks e.name), key_again e.key x.1, name_again e.name x.0) refl
 
 pub entry_option_again : (e : IndexEntry) → is_entry e ≡ true → entry_option (entry_word e) ≡ Ok e

@@ -2,7 +2,7 @@
 use Rattle.std.proofs.Common.{◌≡◌, ◌∙◌, ℕ, ◌+◌, ◌^◌, true, false, not, leb, Option, Some, None, eqb, cond, List, [], ◌∷◌, ◌++◌, length, map, codes, decimal, Result, Ok, Err, inl, inr, refl, sym, ap, subst, arith, append_assoc}
 use Rattle.std.specs.List.{list_all, join_with_byte}
 use Rattle.std.specs.Str.{bytes_eq}
-use Rattle.std.proofs.lemmas.Bool.{eqb-true, leb-true, lt-ltb}
+use Rattle.std.proofs.lemmas.Bool.{eqb-true, leb-true, lt-ltb, and_parts, and_from}
 use Rattle.ox_types.specs.declared.ended.LineRule.{LineRule}
 use Rattle.ox_types.specs.declared.ended.LineRule.TheVariants as rule
 use Rattle.ox_schedule.specs.Events.{Event}
@@ -16,7 +16,7 @@ use Rattle.ox_schedule.specs.Outcome.{◌>>=◌}
 use Rattle.ox_schedule.specs.Spelling.{is_number, is_event, event_line, is_word, words_of, SpellsEvent}
 use Rattle.ox_schedule.specs.Reading.{number_of, line_at}
 use Rattle.ox_schedule.specs.Schedule.{Answers, SpellsSchedule, lines_of, places_of, is_block_count, is_first, room_words, first_words, first_line, at_line, with_front, event_then, events_at, shard_count_of, block_count_of, solo_of, first_of, first_at, schedule_with, behind_first, schedule_in, schedule_at}
-use Rattle.ox_schedule.proofs.Words.{both, two, same_bytes, number_is, number_again}
+use Rattle.ox_schedule.proofs.Words.{same_bytes, number_is, number_again}
 use Rattle.ox_schedule.proofs.Steps.{bind_ok, chosen}
 use Rattle.ox_schedule.proofs.JoinLemmas.{words_joined, line_joined, some_line}
 use Rattle.ox_schedule.proofs.LineLemmas.{line_found, line_again}
@@ -40,14 +40,14 @@ events_found p n (line ∷ lines) es h = by_parts (line_at p line) (events_at p 
         let a = first e refl in
         let b = rest fs refl in
         subst (λ (t : List Event). (line ∷ lines ≡ map event_line t) × (list_all (is_event p) t ≡ true)) it
-        (ap (λ (w : List ℕ). w ∷ lines) a.same ∙ ap (λ (t : List (List ℕ)). event_line e ∷ t) b.0, two _ _ a.lawful b.1)
+        (ap (λ (w : List ℕ). w ∷ lines) a.same ∙ ap (λ (t : List (List ℕ)). event_line e ∷ t) b.0, and_from _ _ a.lawful b.1)
 
 events_again : (p : Places) (n : ℕ) (lines : List (List ℕ)) (es : List Event) → lines ≡ map event_line es → list_all (is_event p) es ≡ true → events_at p n lines ≡ Ok es
 events_again p n [] [] same h = refl
 events_again p n [] (e ∷ es) same h = absurd cc
 events_again p n (line ∷ lines) [] same h = absurd cc
 events_again p n (line ∷ lines) (e ∷ es) same h =
-    let x = both (is_event p e) _ h in
+    let x = and_parts (is_event p e) _ h in
     let first : line ≡ event_line e = cc in
     let rest : lines ≡ map event_line es = cc in
     rw (line_again p line e (record { lawful = x.0; same = first }), events_again p (n + 1) lines es rest x.1) refl
@@ -80,7 +80,7 @@ solo_is (w ∷ []) f h =
     let it : Solo s.0 None ≡ f = cc (s.2) in
     let k = shard_count_is w s.0 s.1 in
     subst (λ (g : First). (codes "solo" ∷ w ∷ [] ≡ first_words g) × (is_first g ≡ true)) it
-    (ap (λ (v : List ℕ). codes "solo" ∷ v ∷ []) k.0, two _ true k.1 refl)
+    (ap (λ (v : List ℕ). codes "solo" ∷ v ∷ []) k.0, and_from _ true k.1 refl)
 solo_is (w ∷ b ∷ []) f h =
     let s = bind_ok (shard_count_of w) (λ shards. block_count_of b >>= λ n. Ok (Solo shards (Some n))) f h in
     let n = bind_ok (block_count_of b) (λ n. Ok (Solo s.0 (Some n))) f s.2 in
@@ -88,7 +88,7 @@ solo_is (w ∷ b ∷ []) f h =
     let k = shard_count_is w s.0 s.1 in
     let m = block_count_is b n.0 n.1 in
     subst (λ (g : First). (codes "solo" ∷ w ∷ b ∷ [] ≡ first_words g) × (is_first g ≡ true)) it
-    (ap (λ (v : List ℕ). codes "solo" ∷ v ∷ b ∷ []) k.0 ∙ ap (λ (v : List ℕ). codes "solo" ∷ decimal s.0 ∷ v ∷ []) m.0, two _ _ k.1 m.1)
+    (ap (λ (v : List ℕ). codes "solo" ∷ v ∷ b ∷ []) k.0 ∙ ap (λ (v : List ℕ). codes "solo" ∷ decimal s.0 ∷ v ∷ []) m.0, and_from _ _ k.1 m.1)
 solo_is (w ∷ b ∷ x ∷ ws) f h = absurd cc
 
 first_of_is : (ws : List (List ℕ)) (f : First) → first_of ws ≡ Ok f → (ws ≡ first_words f) × (is_first f ≡ true)
@@ -116,7 +116,7 @@ first_found line f h =
     ]
 
 small_count : (n : ℕ) → is_block_count n ≡ true → is_number n ≡ true
-small_count n h = lt-ltb n (2 ^ 64) (omega (arith, leb-true n 65536 (both (leb 8 n) (leb n 65536) h).1))
+small_count n h = lt-ltb n (2 ^ 64) (omega (arith, leb-true n 65536 (and_parts (leb 8 n) (leb n 65536) h).1))
 
 shard_count_again : (s : ℕ) → eqb s 1 ≡ true → (is_number s ≡ true) × (shard_count_of (decimal s) ≡ Ok s)
 unfolding shard_count_of
@@ -129,11 +129,11 @@ block_count_again n h = rw (number_again n (small_count n h), h) refl
 solo_again : (s : ℕ) (b : Option ℕ) → is_first (Solo s b) ≡ true → (list_all is_word (first_words (Solo s b)) ≡ true) × (first_of (first_words (Solo s b)) ≡ Ok (Solo s b))
 unfolding first_of solo_of
 solo_again s None h =
-    let x = both (eqb s 1) true h in
+    let x = and_parts (eqb s 1) true h in
     let k = shard_count_again s x.0 in
     (rw (number_is_word s k.0) refl, rw k.1 refl)
 solo_again s (Some n) h =
-    let x = both (eqb s 1) (is_block_count n) h in
+    let x = and_parts (eqb s 1) (is_block_count n) h in
     let k = shard_count_again s x.0 in
     (rw (number_is_word s k.0, number_is_word n (small_count n x.1)) refl, rw (k.1, block_count_again n x.1) refl)
 

@@ -3,7 +3,7 @@ use Rattle.std.proofs.Common.{◌≢◌, not, eqb, ◌≡◌, ◌∙◌, ◌<◌
 use Rattle.std.specs.Str.{bytes_eq}
 use Rattle.std.specs.List.{list_all, slice_split}
 use Rattle.std.proofs.lemmas.Grind.{common_steps}
-use Rattle.std.proofs.lemmas.Bool.{cases_Bool, leb-true, eqb-true}
+use Rattle.std.proofs.lemmas.Bool.{cases_Bool, leb-true, eqb-true, and_parts}
 use Rattle.ox_types.specs.declared.ended.LineRule.{LineRule}
 use Rattle.ox_types.specs.declared.ended.LineRule.TheVariants as rule
 use Rattle.ox_ops.specs.declared.write.WriteBatch.{WriteBatch}
@@ -24,7 +24,7 @@ use Rattle.ox_schedule.specs.Events.{Turn}
 use Rattle.ox_schedule.specs.Outcome.{◌>>=◌, said}
 use Rattle.ox_schedule.specs.Shape.{ops_in, is_compare, write_fits, op_fits, get_fits, single_fits, request_fits, client_fits, turn_fits, is_image, cut_fits, event_fits}
 use Rattle.ox_schedule.specs.Reading.{after, word_at, number_of, key_of, key_at, value_of, value_guess, value_at, name_of, each_of, session_of, deltas_of, at_colon, entry_in, entry_of, entry_given, entry_option, by_of, option_given, option_at, expect_of, expect_at, session_at, deltas_at, by_at, index_of, options_end, number_at, single_of, notices_of, lo_given, lo_of, hi_of, compare_of, range_at, range_of, ends_of, put_of, delete_of, get_of, with_put, with_delete, op_onto, ops_onto, batch_of, alone_of, request_of, node_at, shard_at, client_of, tick_of, turn_of, call_at, image_of, cut_of, node_of, term_of, seat_of, event_of, line_at, empty_batch}
-use Rattle.ox_schedule.proofs.Words.{both, same_bytes}
+use Rattle.ox_schedule.proofs.Words.{same_bytes}
 use Rattle.ox_schedule.proofs.Steps.{word_is}
 use Rattle.ox_schedule.proofs.Fields.{key_at_is, number_at_is}
 
@@ -225,8 +225,8 @@ get_fine : (ws : List (List ℕ)) → get_fits ws ≡ true → Fine (get_of ws)
 unfolding get_of
 get_fine [] h = absurd cc
 get_fine (w ∷ ws) h =
-    let x = both _ _ h in
-    let y = both _ _ x.0 in
+    let x = and_parts _ _ h in
+    let y = and_parts _ _ x.0 in
     bind_fine (compare_of w) _ (compare_fine w y.0) (λ c e.
     bind_fine (key_at ws) _ (key_at_fine ws (leb-true 1 (length ws) y.1)) (λ k f.
     bind_fine (index_of k.1) _ (index_fine k.1) (λ u j. (record { is = refl }))))
@@ -242,7 +242,7 @@ op_put b ws h = test_fine (is_empty b.deletes && is_empty b.ranges) (put_of ws >
 
 op_delete : (b : WriteBatch) (ws : List (List ℕ)) → write_fits (codes "delete") (length ws) ≡ true → Fine (op_onto b (codes "delete" ∷ ws))
 unfolding write_fits op_onto
-op_delete b ws h = test_fine (is_empty b.ranges) (delete_of ws >>= λ d. Ok (with_delete b d)) (Err rule.Order) (bind_fine (delete_of ws) _ (delete_fine ws (leb-true 1 (length ws) (both _ _ h).0)) (λ p e. (record { is = refl }))) (record { is = refl })
+op_delete b ws h = test_fine (is_empty b.ranges) (delete_of ws >>= λ d. Ok (with_delete b d)) (Err rule.Order) (bind_fine (delete_of ws) _ (delete_fine ws (leb-true 1 (length ws) (and_parts _ _ h).0)) (λ p e. (record { is = refl }))) (record { is = refl })
 
 op_range : (b : WriteBatch) (ws : List (List ℕ)) → write_fits (codes "deleterange") (length ws) ≡ true → Fine (op_onto b (codes "deleterange" ∷ ws))
 unfolding write_fits op_onto
@@ -268,7 +268,7 @@ op_fine b (v ∷ ws) h =
 
 ops_fine : (b : WriteBatch) (ops : List (List (List ℕ))) → list_all op_fits ops ≡ true → Fine (ops_onto b ops)
 ops_fine b [] h = record { is = refl }
-ops_fine b (op ∷ ops) h = let x = both (op_fits op) _ h in bind_fine (op_onto b op) _ (op_fine b op x.0) (λ c e. ops_fine c ops x.1)
+ops_fine b (op ∷ ops) h = let x = and_parts (op_fits op) _ h in bind_fine (op_onto b op) _ (op_fine b op x.0) (λ c e. ops_fine c ops x.1)
 
 batch_fine : (ws : List (List ℕ)) → list_all op_fits (ops_in ws) ≡ true → Fine (batch_of ws)
 unfolding batch_of
@@ -287,11 +287,11 @@ at_get ws h = bind_fine (get_of ws) _ (get_fine ws h) (λ p e. (record { is = re
 
 at_list : (ws : List (List ℕ)) → IsAsked ws (codes "list")
 unfolding request_fits request_of
-at_list ws h = bind_fine (ends_of ws) _ (ends_fine ws (leb-true 2 (length ws) (both _ _ h).0)) (λ p e. (record { is = refl }))
+at_list ws h = bind_fine (ends_of ws) _ (ends_fine ws (leb-true 2 (length ws) (and_parts _ _ h).0)) (λ p e. (record { is = refl }))
 
 at_scan : (ws : List (List ℕ)) → IsAsked ws (codes "scan")
 unfolding request_fits request_of
-at_scan ws h = bind_fine (ends_of ws) _ (ends_fine ws (leb-true 2 (length ws) (both _ _ h).0)) (λ p e. (record { is = refl }))
+at_scan ws h = bind_fine (ends_of ws) _ (ends_fine ws (leb-true 2 (length ws) (and_parts _ _ h).0)) (λ p e. (record { is = refl }))
 
 abbrev IsSingle : List (List ℕ) → List ℕ → Type 0
 IsSingle ws v = single_fits v (length ws) ≡ true → Fine (alone_of (v ∷ ws))
@@ -443,7 +443,7 @@ unfolding cut_of
 cut_fine p [] h = absurd cc
 cut_fine p (n ∷ []) h = absurd cc
 cut_fine p (n ∷ i ∷ ws) h =
-    let fits = both (is_image i) (turn_fits ws) h in
+    let fits = and_parts (is_image i) (turn_fits ws) h in
     bind_fine (call_at (n ∷ i ∷ ws)) _ (call_fine (n ∷ i ∷ ws) (omega arith)) (λ x e.
     let one : x.1 ≡ i ∷ ws = call_tail n x.0 _ _ (call_is (n ∷ i ∷ ws) x e).0 in
     bind_fine (word_at x.1) _ (word_fine x.1 (omega (arith, ap length one))) (λ y f.

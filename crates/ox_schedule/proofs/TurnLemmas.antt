@@ -4,6 +4,7 @@ use Rattle.std.specs.Str.{bytes_eq}
 use Rattle.std.specs.List.{list_all}
 use Rattle.std.proofs.lemmas.List.Folds.{list_all-append}
 use Rattle.std.proofs.lemmas.Bool.Decides.{nat_tests}
+use Rattle.std.proofs.lemmas.Bool.{and_parts, and_from}
 use Rattle.ox_types.specs.declared.ended.LineRule.TheVariants as rule
 use Rattle.ox_order.specs.declared.range.KeyRange.{KeyRange}
 use Rattle.ox_ops.specs.declared.write.Expect.{Expect}
@@ -26,7 +27,7 @@ use Rattle.ox_schedule.specs.Shape.{op_fits, write_fits, get_fits, range_fits, s
 use Rattle.ox_text.specs.Words.{spelt, range_words}
 use Rattle.ox_schedule.specs.Spelling.{is_number, is_node, is_shard, is_put, is_delete, is_range, names_node, names_shard, is_request, is_turn, put_op, delete_op, range_op, batch_ops, joined, are_lawful, by_words, put_options, expect_words, compare_word, request_words, turn_words}
 use Rattle.ox_schedule.specs.Reading.{word_at, number_of, empty_batch, with_put, with_delete, with_range, op_onto, alone_of, request_of, node_at, shard_at, client_of, tick_of, turn_of, single_of}
-use Rattle.ox_schedule.proofs.Words.{both, two, number_is, number_again}
+use Rattle.ox_schedule.proofs.Words.{number_is, number_again}
 use Rattle.ox_schedule.proofs.Steps.{bind_ok, chosen, word_is}
 use Rattle.ox_schedule.proofs.Fields.{put_again, delete_again, range_again, ends_is, ends_again, get_is, get_again, single_is, single_again, notices_is, notices_again}
 use Rattle.ox_schedule.proofs.BatchLemmas.{verb_is, batch_is, batch_again, batch_split, alone_is, alone_cases}
@@ -52,13 +53,13 @@ others_is ws r h =
             let p = bind_ok _ _ _ x.1 in
             let it : Write grouping.Alone (command.Open p.0) ≡ r = cc (p.2) in
             let s = single_is w.0.1 p.0 p.1 in
-            subst (λ (q : Request). IsRead ws q) it (verb_is ws w.0.0 _ w.0.1 _ word x.0 s.0, two true _ refl s.1)
+            subst (λ (q : Request). IsRead ws q) it (verb_is ws w.0.0 _ w.0.1 _ word x.0 s.0, and_from true _ refl s.1)
         | inr x ↦ elim (chosen (bytes_eq w.0.0 (codes "close")) _ _ _ x.1) [
           | inl x ↦
               let p = bind_ok _ _ _ x.1 in
               let it : Write grouping.Alone (command.Close p.0) ≡ r = cc (p.2) in
               let s = single_is w.0.1 p.0 p.1 in
-              subst (λ (q : Request). IsRead ws q) it (verb_is ws w.0.0 _ w.0.1 _ word x.0 s.0, two true _ refl s.1)
+              subst (λ (q : Request). IsRead ws q) it (verb_is ws w.0.0 _ w.0.1 _ word x.0 s.0, and_from true _ refl s.1)
           | inr x ↦ elim (chosen (bytes_eq w.0.0 (codes "keep")) _ _ _ x.1) [
             | inl x ↦
                 let p = bind_ok _ _ _ x.1 in
@@ -126,8 +127,8 @@ alone_range r h = rw (range_again r h) refl
 
 pub request_again : (r : Request) → is_request r ≡ true → request_of (request_words r) ≡ Ok r
 unfolding request_of alone_of
-request_again (Write grouping.Alone (command.Write b)) h = let x = both (are_lawful b) _ h in alone_cases IsReadAlone alone_put alone_delete alone_range b x.0 x.1
-request_again (Write grouping.Batch (command.Write b)) h = let x = both (are_lawful b) _ h in rw (batch_again b x.0 x.1) refl
+request_again (Write grouping.Alone (command.Write b)) h = let x = and_parts (are_lawful b) _ h in alone_cases IsReadAlone alone_put alone_delete alone_range b x.0 x.1
+request_again (Write grouping.Batch (command.Write b)) h = let x = and_parts (are_lawful b) _ h in rw (batch_again b x.0 x.1) refl
 request_again (Write grouping.Alone (command.Open n)) h = rw (single_again n h) refl
 request_again (Write grouping.Alone (command.Close n)) h = rw (single_again n h) refl
 request_again (Write grouping.Batch (command.Open n)) h = absurd cc
@@ -182,7 +183,7 @@ client_is places ws t h =
     let it : Client n.0.0 s.0.0 r.0 ≡ t = cc (r.2) in
     let words : ws ≡ decimal n.0.0 ∷ decimal s.0.0 ∷ request_words r.0 = node.0 ∙ ap (λ (t : List (List ℕ)). decimal n.0.0 ∷ t) (shard.0 ∙ ap (λ (t : List (List ℕ)). decimal s.0.0 ∷ t) asked.0) in
     subst (λ (q : Turn). IsTaken places (codes "client" ∷ ws) q) it
-    (ap (λ (t : List (List ℕ)). codes "client" ∷ t) words, two _ _ (two _ _ (two _ _ node.1 node.2) (two _ _ shard.1 shard.2)) asked.1)
+    (ap (λ (t : List (List ℕ)). codes "client" ∷ t) words, and_from _ _ (and_from _ _ (and_from _ _ node.1 node.2) (and_from _ _ shard.1 shard.2)) asked.1)
 
 tick_is : (places : Places) (ws : List (List ℕ)) (t : Turn) → tick_of places ws ≡ Ok t → IsTaken places (codes "tick" ∷ ws) t
 unfolding tick_of
@@ -196,7 +197,7 @@ tick_is places ws t h =
     let it : Tick n.0.0 s.0.0 m.0 ≡ t = cc (m.2) in
     let words : ws ≡ decimal n.0.0 ∷ decimal s.0.0 ∷ decimal m.0 ∷ [] = node.0 ∙ ap (λ (t : List (List ℕ)). decimal n.0.0 ∷ t) (shard.0 ∙ ap (λ (t : List (List ℕ)). decimal s.0.0 ∷ t) time.0) in
     subst (λ (q : Turn). IsTaken places (codes "tick" ∷ ws) q) it
-    (ap (λ (t : List (List ℕ)). codes "tick" ∷ t) words, two _ _ (two _ _ (two _ _ node.1 node.2) (two _ _ shard.1 shard.2)) time.1)
+    (ap (λ (t : List (List ℕ)). codes "tick" ∷ t) words, and_from _ _ (and_from _ _ (and_from _ _ node.1 node.2) (and_from _ _ shard.1 shard.2)) time.1)
 
 deliver_is : (places : Places) (ws : List (List ℕ)) (t : Turn) → (single_of ws >>= λ message. Ok (Deliver message)) ≡ Ok t → IsTaken places (codes "deliver" ∷ ws) t
 deliver_is places ws t h =
@@ -229,22 +230,22 @@ turn_found places ws t h =
 
 pub node_again : (places : Places) (n : ℕ) (ws : List (List ℕ)) → names_node places n ≡ true → node_at places (decimal n ∷ ws) ≡ Ok (n, ws)
 unfolding node_at
-node_again places n ws h = let x = both (is_number n) (is_node places n) h in rw (number_again n x.0, x.1) refl
+node_again places n ws h = let x = and_parts (is_number n) (is_node places n) h in rw (number_again n x.0, x.1) refl
 
 pub shard_again : (places : Places) (s : ℕ) (ws : List (List ℕ)) → names_shard places s ≡ true → shard_at places (decimal s ∷ ws) ≡ Ok (s, ws)
 unfolding shard_at
-shard_again places s ws h = let x = both (is_number s) (is_shard places s) h in rw (number_again s x.0, x.1) refl
+shard_again places s ws h = let x = and_parts (is_number s) (is_shard places s) h in rw (number_again s x.0, x.1) refl
 
 pub turn_again : (places : Places) (t : Turn) → is_turn places t ≡ true → turn_of places (turn_words t) ≡ Ok t
 unfolding turn_of client_of tick_of
 turn_again places (Client node shard r) h =
-    let a = both _ _ h in
-    let b = both _ _ a.0 in
+    let a = and_parts _ _ h in
+    let b = and_parts _ _ a.0 in
     rw (node_again places node (decimal shard ∷ request_words r) b.0, shard_again places shard (request_words r) b.1, request_again r a.1) refl
 turn_again places (Deliver message) h = rw (single_again message h) refl
 turn_again places (Tick node shard ms) h =
-    let a = both _ _ h in
-    let b = both _ _ a.0 in
+    let a = and_parts _ _ h in
+    let b = and_parts _ _ a.0 in
     rw (node_again places node (decimal shard ∷ decimal ms ∷ []) b.0, shard_again places shard (decimal ms ∷ []) b.1, single_again ms a.1) refl
 
 -- ---- their shape
@@ -308,8 +309,8 @@ alone_range_fits r h = range_op_fits r
 
 request_has_shape : (r : Request) → is_request r ≡ true → request_fits (request_words r) ≡ true
 unfolding request_fits single_fits
-request_has_shape (Write grouping.Alone (command.Write b)) h = let x = both (are_lawful b) _ h in alone_cases FitsAlone alone_put_fits alone_delete_fits alone_range_fits b x.0 x.1
-request_has_shape (Write grouping.Batch (command.Write b)) h = let x = both (are_lawful b) _ h in rw (batch_split b x.1) (batch_fits b)
+request_has_shape (Write grouping.Alone (command.Write b)) h = let x = and_parts (are_lawful b) _ h in alone_cases FitsAlone alone_put_fits alone_delete_fits alone_range_fits b x.0 x.1
+request_has_shape (Write grouping.Batch (command.Write b)) h = let x = and_parts (are_lawful b) _ h in rw (batch_split b x.1) (batch_fits b)
 request_has_shape (Write g (command.Open n)) h = refl
 request_has_shape (Write g (command.Close n)) h = refl
 request_has_shape (Write g (command.Expire n)) h = absurd cc
@@ -321,6 +322,6 @@ request_has_shape (Read (query.KeepAlive n)) h = refl
 
 pub turn_has_shape : (places : Places) (t : Turn) → is_turn places t ≡ true → turn_fits (turn_words t) ≡ true
 unfolding turn_fits
-turn_has_shape places (Client node shard r) h = let a = both _ _ h in request_has_shape r a.1
+turn_has_shape places (Client node shard r) h = let a = and_parts _ _ h in request_has_shape r a.1
 turn_has_shape places (Deliver message) h = refl
 turn_has_shape places (Tick node shard ms) h = refl

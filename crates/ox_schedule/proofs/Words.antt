@@ -7,25 +7,19 @@ use Rattle.std.specs.Str.{bytes_eq}
 use Rattle.std.specs.Str.Parse.{digits_value}
 use Rattle.std.proofs.lemmas.Fmt.{decimal_is_IsNumeral}
 use Rattle.std.proofs.lemmas.Slice.Eq.{bytes_eq-Decides}
-use Rattle.std.proofs.lemmas.Bool.{agree_below, agree_below_at, cases_lt, lt-ltb, le-ltb, le-leb, lt-leb}
+use Rattle.std.proofs.lemmas.Bool.{agree_below, agree_below_at, cases_lt, lt-ltb, le-ltb, le-leb, lt-leb, and_parts}
 use Rattle.std.proofs.lemmas.Bool.Decides.{Decides-by_and, Decides-ltb, nat_tests}
 use Rattle.std.proofs.lemmas.Grind.{common_steps}
 use Rattle.percent_encoding.specs.Percent.{percent_encode, percent_decode, percent_encode_byte, encode_byte}
 use Rattle.ox_types.specs.declared.ended.LineRule.{LineRule}
 use Rattle.ox_types.specs.declared.ended.LineRule.TheVariants as rule
+use Rattle.ox_types.specs.Limits.{value_limit}
 use Rattle.ox_ops.specs.Forms as form
 use Rattle.ox_text.specs.SpellingLaws.{spelling_again}
 use Rattle.ox_schedule.specs.Outcome.{said}
 use Rattle.ox_text.specs.Words.{is_plain, escape, spelt, value_word}
 use Rattle.ox_schedule.specs.Spelling.{is_byte, is_key, is_value, is_name, is_number}
 use Rattle.ox_schedule.specs.Reading.{number_of, key_of, value_of, value_guess, name_of}
-
-pub both : (a b : Bool) → a && b ≡ true → (a ≡ true) × (b ≡ true)
-both true b h = (refl, h)
-both false b h = cc
-
-pub two : (a b : Bool) → a ≡ true → b ≡ true → a && b ≡ true
-two a b h k = rw (h, k) refl
 
 pub same_bytes : (a b : List ℕ) → bytes_eq a b ≡ true → a ≡ b
 same_bytes a b h = (bytes_eq-Decides a b).0 h
@@ -42,7 +36,7 @@ picked false a c r e = absurd cc
 pub said_is : {A : Type 0} (spell : A → List ℕ) (lawful : A → Bool) (r : LineRule) (w : List ℕ) (a c : A) → said spell lawful r w a ≡ Ok c → (w ≡ spell c) × (lawful c ≡ true)
 said_is spell lawful r w a c e =
     let p = picked (bytes_eq w (spell a) && lawful a) a c r e in
-    let q = both (bytes_eq w (spell a)) (lawful a) p.0 in
+    let q = and_parts (bytes_eq w (spell a)) (lawful a) p.0 in
     (same_bytes w (spell a) q.0 ∙ ap spell p.1, sym (ap lawful p.1) ∙ q.1)
 
 pub said_again : {A : Type 0} (spell : A → List ℕ) (lawful : A → Bool) (r : LineRule) (a c : A) → a ≡ c → lawful c ≡ true → said spell lawful r (spell c) a ≡ Ok c
@@ -98,7 +92,7 @@ key_is w k e = said_is spelt is_key rule.Key w (percent_decode w) k e
 
 key_bytes : (k : List ℕ) → is_key k ≡ true → list_all is_byte k ≡ true
 unfolding is_key
-key_bytes k h = (both _ _ h).0
+key_bytes k h = (and_parts _ _ h).0
 
 pub key_again : (k : List ℕ) → is_key k ≡ true → key_of (spelt k) ≡ Ok k
 unfolding key_of
@@ -110,7 +104,7 @@ value_is w v e = said_is value_word is_value rule.Value w (value_guess w) v e
 
 value_bytes : (v : List ℕ) → is_value v ≡ true → list_all is_byte v ≡ true
 unfolding is_value
-value_bytes v h = (both _ _ h).0
+value_bytes v h = (and_parts _ _ h).0
 
 pub name_is : (w n : List ℕ) → name_of w ≡ Ok n → (w ≡ spelt n) × (is_name n ≡ true)
 unfolding name_of
@@ -118,7 +112,7 @@ name_is w n e = said_is spelt is_name rule.Option w (percent_decode w) n e
 
 name_bytes : (n : List ℕ) → is_name n ≡ true → list_all is_byte n ≡ true
 unfolding is_name
-name_bytes n h = (both _ _ h).0
+name_bytes n h = (and_parts _ _ h).0
 
 pub name_again : (n : List ℕ) → is_name n ≡ true → name_of (spelt n) ≡ Ok n
 unfolding name_of
@@ -173,13 +167,13 @@ pub value_misspelt : (w d : List ℕ) → d ≡ value_guess w → bytes_eq w (va
 unfolding value_of
 value_misspelt w d e s = rw (← e, s) refl
 
-pub value_found : (w d : List ℕ) → d ≡ value_guess w → bytes_eq w (value_word d) ≡ true → list_all is_byte d ≡ true → length d ≤ 1048576 → value_of w ≡ Ok d
+pub value_found : (w d : List ℕ) → d ≡ value_guess w → bytes_eq w (value_word d) ≡ true → list_all is_byte d ≡ true → length d ≤ value_limit → value_of w ≡ Ok d
 unfolding value_of is_value
-value_found w d e s small short = rw (← e, s, small, le-leb (length d) 1048576 short) refl
+value_found w d e s small short = rw (← e, s, small, le-leb (length d) value_limit short) refl
 
-pub value_too_long : (w d : List ℕ) → d ≡ value_guess w → bytes_eq w (value_word d) ≡ true → list_all is_byte d ≡ true → 1048576 < length d → value_of w ≡ Err rule.Value
+pub value_too_long : (w d : List ℕ) → d ≡ value_guess w → bytes_eq w (value_word d) ≡ true → list_all is_byte d ≡ true → value_limit < length d → value_of w ≡ Err rule.Value
 unfolding value_of is_value
-value_too_long w d e s small long = rw (← e, s, small, lt-leb (length d) 1048576 long) refl
+value_too_long w d e s small long = rw (← e, s, small, lt-leb (length d) value_limit long) refl
 
 -- ---- what the reader of a name finds
 

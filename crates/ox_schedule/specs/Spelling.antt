@@ -1,6 +1,7 @@
 -- The grammar of a line: the words of each construct, and which constructs are lawful. A line is the words of its event.
 use Rattle.std.specs.Prelude.{◌≡◌, ℕ, ◌^◌, Bool, true, false, not, ◌&&◌, ◌||◌, ◌==◌, nat_le, nat_lt, List, [], ◌∷◌, ◌++◌, length, map, Option, Some, None, codes, decimal, if◌then◌else◌}
 use Rattle.std.specs.List.{list_all, flat_map, slice_split, join_with_byte}
+use Rattle.ox_types.specs.Limits.{term_limit}
 use Rattle.ox_bytes.specs.Fields as field
 use Rattle.ox_text.specs.Words.{spelt, value_word, lo_word, hi_word, range_words}
 use Rattle.ox_ops.specs.Forms as form
@@ -291,7 +292,7 @@ is_call n = nat_le 1 n
 
 -- a term is 1 to 2^53
 abbrev pub is_term : ℕ → Bool
-is_term n = nat_le 1 n && nat_le n (2 ^ 53)
+is_term n = nat_le 1 n && nat_le n term_limit
 
 -- what an actor takes, at a node and a shard that are there where it names one
 abbrev pub is_turn : Places → Turn → Bool

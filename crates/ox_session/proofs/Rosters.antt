@@ -7,11 +7,12 @@ use Rattle.std.specs.Map.{lookup, set_value, remove_entry, keys_of}
 use Rattle.std.specs.BTreeMap.{is_at, insert_entry}
 use Rattle.std.specs.Ordering.{nat_cmp, is_eq}
 use Rattle.std.specs.declared.cmp.Ordering.TheVariants.{Less, Equal, Greater}
-use Rattle.std.proofs.lemmas.Bool.{cases_Bool, cases_eq}
+use Rattle.std.proofs.lemmas.Bool.{cases_Bool, cases_eq, lt-ltb, le-ltb}
 use Rattle.std.proofs.lemmas.Bool.Decides.{nat_tests}
 use Rattle.std.proofs.lemmas.List.{map-append, append-nil}
 use Rattle.std.proofs.lemmas.List.Elements.{filter-append}
 use Rattle.std.proofs.lemmas.List.Concat.{flat_map-cons}
+use Rattle.std.proofs.lemmas.Option.{same_Some}
 use Rattle.ox_ops.specs.State.{Session, is_open}
 use Rattle.ox_session.specs.declared.roster.Roster.{Roster}
 use Rattle.ox_session.specs.Keys.{keys_in, KeysRise}
@@ -21,12 +22,6 @@ abbrev Rosters : Type 0
 Rosters = List (ℕ × Roster)
 
 -- ---- tests of numbers
-
-lt_true : (a b : ℕ) → a < b → nat_lt a b ≡ true
-lt_true a b h = grind (arith, nat_tests)
-
-lt_false : (a b : ℕ) → b ≤ a → nat_lt a b ≡ false
-lt_false a b h = grind (arith, nat_tests)
 
 eq_true : (a b : ℕ) → a ≡ b → (a == b) ≡ true
 eq_true a b h = grind (arith, nat_tests)
@@ -38,17 +33,17 @@ from_lt : (a b : ℕ) → nat_lt a b ≡ true → a < b
 from_lt a b e = grind (arith, nat_tests)
 
 cmp_less : (a b : ℕ) → a < b → nat_cmp a b ≡ Less
-cmp_less a b h = rw (lt_true a b h) refl
+cmp_less a b h = rw (lt-ltb a b h) refl
 
 cmp_equal : (a b : ℕ) → a ≡ b → nat_cmp a b ≡ Equal
 cmp_equal a b h =
-    let x = lt_false a b (omega arith) in
+    let x = le-ltb a b (omega arith) in
     let y = eq_true a b h in
     rw (x, y) refl
 
 cmp_greater : (a b : ℕ) → b < a → nat_cmp a b ≡ Greater
 cmp_greater a b h =
-    let x = lt_false a b (omega arith) in
+    let x = le-ltb a b (omega arith) in
     let y = eq_false a b (λ e. absurd (omega arith)) in
     rw (x, y) refl
 
@@ -159,13 +154,13 @@ lesser_none : (id : ℕ) (es : Rosters) → IsBelow id es → filter (λ (x : Se
 lesser_none id [] h = refl
 lesser_none id (e ∷ es) h =
     let more = h.0 in
-    let no = lt_false e.0 id (omega arith) in
+    let no = le-ltb e.0 id (omega arith) in
     rw no (lesser_none id es h.1)
 
 greater_all : (id : ℕ) (es : Rosters) → IsBelow id es → filter (λ (x : Session). nat_lt id x.id) (sessions_of es) ≡ sessions_of es
 greater_all id [] h = refl
 greater_all id (e ∷ es) h =
-    let yes = lt_true id e.0 h.0 in
+    let yes = lt-ltb id e.0 h.0 in
     rw yes (ap (λ (xs : List Session). record { id = e.0; timeout = e.1.timeout } ∷ xs) (greater_all id es h.1))
 
 others_all : (id : ℕ) (es : Rosters) → IsBelow id es → sessions_of es ≡ filter (λ (x : Session). not (x.id == id)) (sessions_of es)
@@ -192,7 +187,7 @@ sessions_inserted id r (e ∷ es) h none = elim (cases_Bool (nat_lt id e.0)) [
     | inr other ↦
         let gt = greater id e.0 more other in
         let order = cmp_greater id e.0 gt in
-        let low = lt_true e.0 id gt in
+        let low = lt-ltb e.0 id gt in
         let past = at_other id e.0 other in
         let rest = sessions_inserted id r es h.1 (rw past at none) in
         rw (order, low, more) (ap (λ (xs : List Session). record { id = e.0; timeout = e.1.timeout } ∷ xs) rest)
@@ -220,13 +215,10 @@ pub sessions_set : (test : ℕ → Bool) (es : Rosters) (r w : Roster) → looku
 sessions_set test [] r w found same = refl
 sessions_set test (e ∷ es) r w found same = elim (cases_Bool (test e.0)) [
   | inl here ↦
-      let value : e.1 ≡ r = some_is (rw here at found) in
+      let value : e.1 ≡ r = same_Some e.1 r (rw here at found) in
       rw here (ap (λ (t : ℕ). record { id = e.0; timeout = t } ∷ sessions_of es) (same ∙ ap (λ (x : Roster). x.timeout) (sym value)))
   | inr past ↦ rw past (ap (λ (xs : List Session). record { id = e.0; timeout = e.1.timeout } ∷ xs) (sessions_set test es r w (rw past at found) same))
 ]
-  where
-    some_is : {x y : Roster} → Some x ≡ Some y → x ≡ y
-    some_is e = cc e
 
 -- ---- what an edit of one roster changes
 

@@ -1,22 +1,16 @@
 -- A key that joined before, or that isn't there, changes nothing; a session with a greater id is the last.
-use Rattle.std.proofs.Common.{◌≡◌, ◌∙◌, ℕ, ◌<◌, true, false, nat_lt, List, [], ◌∷◌, ◌++◌, filter, refl, sym, ap, subst, arith, inl, inr}
+use Rattle.std.proofs.Common.{◌≡◌, ◌∙◌, ℕ, true, false, List, [], ◌∷◌, ◌++◌, filter, refl, sym, ap, subst, arith, inl, inr}
 use Rattle.std.specs.Str.{bytes_eq}
-use Rattle.std.specs.Ordering.{is_lt, is_eq, ordering_reverse}
+use Rattle.std.specs.Ordering.{is_lt, ordering_reverse}
 use Rattle.std.specs.Cmp.{tied_itself}
 use Rattle.std.specs.declared.cmp.Ordering.{Ordering}
-use Rattle.std.specs.declared.cmp.Ordering.TheVariants.{Less, Equal, Greater}
-use Rattle.std.proofs.lemmas.Bool.{cases_Bool}
-use Rattle.std.proofs.lemmas.Bool.Decides.{nat_tests}
+use Rattle.std.proofs.lemmas.Bool.{cases_Bool, lt-ltb, le-ltb}
 use Rattle.ox_types.specs.Order.{key_cmp, IsBefore}
 use Rattle.ox_types.specs.OrderLaws.{key_total, key_anti, key_ties}
+use Rattle.ox_types.specs.Comparisons.{equal_of}
 use Rattle.ox_ops.specs.State.{Session}
 use Rattle.ox_session.specs.Keys.{with_key, without_key, IsBeforeAll, KeysRise, has_key}
 use Rattle.ox_session.specs.Members.{with_session, AllBelow}
-
-equal_of : (r : Ordering) → is_eq r ≡ true → r ≡ Equal
-equal_of Less e = cc e
-equal_of Equal e = refl
-equal_of Greater e = cc e
 
 -- equal bytes are the same key
 same_key : (a b : List ℕ) → bytes_eq a b ≡ true → a ≡ b
@@ -68,13 +62,7 @@ without_key-absent key (k ∷ keys) e = elim (cases_Bool (bytes_eq k key)) [
   | inr other ↦ rw other (ap (λ (ks : List (List ℕ)). k ∷ ks) (without_key-absent key keys (rw other at e)))
 ]
 
-lt_true : (a b : ℕ) → a < b → nat_lt a b ≡ true
-lt_true a b h = grind (arith, nat_tests)
-
-lt_false : (a b : ℕ) → a < b → nat_lt b a ≡ false
-lt_false a b h = grind (arith, nat_tests)
-
 pub with_session-last : (s : Session) (sessions : List Session) → AllBelow s.id sessions → with_session s sessions ≡ sessions ++ s ∷ []
 with_session-last s [] h = refl
 with_session-last s (x ∷ sessions) h =
-    rw (lt_true x.id s.id h.0, lt_false x.id s.id h.0) (ap (λ (xs : List Session). x ∷ xs) (with_session-last s sessions h.1))
+    rw (lt-ltb x.id s.id h.0, le-ltb s.id x.id (omega (arith, h.0))) (ap (λ (xs : List Session). x ∷ xs) (with_session-last s sessions h.1))

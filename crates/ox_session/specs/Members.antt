@@ -1,7 +1,6 @@
 -- The open sessions, and the pairs of a session and a key that joined it.
 use Rattle.std.specs.Prelude.{ℕ, ◌==◌, ◌<◌, nat_lt, List, [], ◌∷◌, ◌++◌, map, filter}
 use Rattle.std.specs.List.{flat_map}
-use Rattle.ox_types.specs.declared.timer.Timer.{Timer}
 use Rattle.ox_ops.specs.State.{Session}
 use Rattle.ox_session.specs.declared.roster.Roster.{Roster}
 use Rattle.ox_session.specs.Keys.{keys_in}
@@ -25,10 +24,6 @@ members_in id rosters = map (λ p. p.1) (filter (λ p. p.0 == id) (joined roster
 -- the sessions with this one in its place by id
 abbrev pub with_session : Session → List Session → List Session
 with_session s sessions = filter (λ x. nat_lt x.id s.id) sessions ++ s ∷ filter (λ x. nat_lt s.id x.id) sessions
-
--- the timer of a session
-abbrev pub timer_of : Session → Timer
-timer_of s = record { id = s.id; timeout = s.timeout }
 
 -- each session's id is below this one
 abbrev pub AllBelow : ℕ → List Session → Type 0

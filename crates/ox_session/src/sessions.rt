@@ -1,7 +1,7 @@
 ghost use Rattle.std.specs.Prelude.{◌≡◌, ◌==◌, ℕ, [], true, false, not, None, Some, IfOk, OnOk, OnErr, map, filter, if◌then◌else◌};
-ghost use Rattle.ox_ops.specs.State.{is_open};
+ghost use Rattle.ox_ops.specs.State.{is_open, timer_of};
 ghost use Rattle.ox_session.specs.Keys.{with_key, without_key, KeysRise};
-ghost use Rattle.ox_session.specs.Members.{sessions_of, members_in, with_session, timer_of};
+ghost use Rattle.ox_session.specs.Members.{sessions_of, members_in, with_session};
 
 use crate::roster::Roster;
 use ox_types::{Key, List, NoMemory, Timer};

@@ -10,6 +10,8 @@ use Rattle.std.proofs.lemmas.Bool.{cases_Bool}
 use Rattle.std.proofs.lemmas.List.{map-append}
 use Rattle.std.proofs.lemmas.List.Elements.{filter-append, All-head, All-tail}
 use Rattle.std.proofs.lemmas.List.Concat.{flat_map-cons}
+use Rattle.ox_types.specs.Comparisons.{equal_of}
+use Rattle.ox_types.specs.Lists.{first_of}
 use Rattle.ox_table.specs.Table.{IsRising}
 use Rattle.ox_order.specs.declared.range.KeyRange.{KeyRange}
 use Rattle.ox_order.specs.Range.{in_range}
@@ -19,7 +21,7 @@ use Rattle.ox_ops.specs.declared.query.Compare.TheVariants as compare
 use Rattle.ox_ops.specs.declared.answer.Record.{Record}
 use Rattle.ox_ops.specs.State.{ShardState, has_key, record_of}
 use Rattle.ox_ops.specs.Check.{same_entry, has_repeated}
-use Rattle.ox_ops.specs.Answer.{IndexPair, sorted, pairs_in, pairs_of, record_of_pair, compared, first_of, got, matching}
+use Rattle.ox_ops.specs.Answer.{IndexPair, sorted, pairs_in, pairs_of, record_of_pair, compared, got, matching}
 use Rattle.ox_puts.specs.Records.{keyed}
 use Rattle.ox_index.specs.declared.added.Added.{Added}
 use Rattle.ox_index.specs.Order.{added_cmp, IsInOrder}
@@ -29,7 +31,7 @@ use Rattle.ox_index.specs.Pairs.{has_name, pair_of, pairs_under, has_added, IsDi
 use Rattle.ox_index.specs.PairLaws.{in_order-in_order_of, has-in_order_of, pairs_sorted, told_by_entries}
 use Rattle.ox_shard.specs.Lists.{entries_at, added_by, all_added, HasEntriesOf}
 use Rattle.ox_shard.specs.Parts.{HasDistinctEntries}
-use Rattle.ox_shard.proofs.Keys.{key_of, equal_of, same_key, itself, at_key, has-append, has-cons, not_below}
+use Rattle.ox_shard.proofs.Keys.{key_of, same_key, itself, at_key, has-append, has-cons, not_below}
 
 -- ---- the pairs of one index
 

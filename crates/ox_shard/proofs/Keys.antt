@@ -5,12 +5,12 @@ use Rattle.std.specs.Str.{bytes_eq}
 use Rattle.std.specs.Ordering.{is_eq, ordering_reverse}
 use Rattle.std.specs.Cmp.{tied_itself}
 use Rattle.std.specs.declared.cmp.Ordering.{Ordering}
-use Rattle.std.specs.declared.cmp.Ordering.TheVariants.{Less, Equal, Greater}
 use Rattle.std.proofs.lemmas.Bool.{cases_Bool}
 use Rattle.std.proofs.lemmas.List.Folds.{list_any-append}
 use Rattle.std.proofs.lemmas.List.Concat.{flat_map-cons}
 use Rattle.ox_types.specs.Order.{key_cmp, IsBefore}
 use Rattle.ox_types.specs.OrderLaws.{key_total, key_anti, key_ties}
+use Rattle.ox_types.specs.Comparisons.{equal_of}
 use Rattle.ox_table.specs.Table.{IsBelow}
 use Rattle.ox_ops.specs.declared.write.IndexEntry.{IndexEntry}
 use Rattle.ox_ops.specs.declared.answer.Record.{Record}
@@ -23,11 +23,6 @@ use Rattle.ox_shard.specs.Lists.{entries_at, added_by, all_added}
 
 abbrev pub key_of : Record → List ℕ
 key_of r = r.key
-
-pub equal_of : (r : Ordering) → is_eq r ≡ true → r ≡ Equal
-equal_of Less e = cc e
-equal_of Equal e = refl
-equal_of Greater e = cc e
 
 -- equal bytes are the same key
 pub same_key : (a b : List ℕ) → bytes_eq a b ≡ true → a ≡ b

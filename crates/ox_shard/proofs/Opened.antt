@@ -4,6 +4,7 @@ use Rattle.std.specs.Prelude.{not, if◌then◌else◌}
 use Rattle.std.proofs.lemmas.Bool.{cases_Bool, le-leb, lt-leb}
 use Rattle.std.proofs.lemmas.List.Concat.{flat_map-cons}
 use Rattle.std.proofs.lemmas.List.Elements.{All-filter, All-push, All-weaker, filter-append}
+use Rattle.ox_types.specs.Limits.{weight_limit}
 use Rattle.ox_table.specs.Table.{IsRising}
 use Rattle.ox_ops.specs.declared.answer.Record.{Record}
 use Rattle.ox_ops.specs.declared.notice.Notice.{Notice}
@@ -11,7 +12,7 @@ use Rattle.ox_ops.specs.declared.notice.Notice.TheVariants as notice
 use Rattle.ox_ops.specs.declared.reply.OpReply.{OpReply}
 use Rattle.ox_ops.specs.declared.reply.OpReply.TheVariants as reply
 use Rattle.ox_ops.specs.State.{Session, members_of, is_member, is_open}
-use Rattle.ox_ops.specs.Weight.{weight_limit, session_weight, state_weight, record_weight}
+use Rattle.ox_ops.specs.Weight.{session_weight, state_weight, record_weight}
 use Rattle.ox_ops.specs.Apply.{replied, open_on, close_on}
 use Rattle.ox_session.specs.declared.roster.Roster.{Roster}
 use Rattle.ox_session.specs.Keys.{keys_in}
@@ -40,18 +41,18 @@ weighed : (p : Parts) → IsTied p → state_weight (state_of p) ≡ weight_in p
 weighed p tied = ap (λ n. sum_by record_weight p.records.records + n) tied.charged
 
 module _ (p : Parts) (offset timeout : ℕ) (tied : IsTied p) where
-  fits : weight_in p.records + 64 ≤ 268435456 → open_on (state_of p) offset timeout ≡ replied (record (state_of p) { sessions = sessions_of p.lists.sessions ++ record { id = offset; timeout = timeout } ∷ [] }) (reply.Opened offset)
+  fits : weight_in p.records + 64 ≤ weight_limit → open_on (state_of p) offset timeout ≡ replied (record (state_of p) { sessions = sessions_of p.lists.sessions ++ record { id = offset; timeout = timeout } ∷ [] }) (reply.Opened offset)
   fits light =
       let all = weighed p tied in
       let yes : leb (state_weight (state_of p) + session_weight) weight_limit ≡ true = le-leb (state_weight (state_of p) + session_weight) weight_limit (omega arith) in
       rw yes refl
 
   -- there is no room for a session
-  pub full : (weight_in p.records + 64 ≤ 268435456 → ⊥) → open_on (state_of p) offset timeout ≡ replied (state_of p) (reply.ShardFull (weight_in p.records + 64) 268435456)
+  pub full : (weight_in p.records + 64 ≤ weight_limit → ⊥) → open_on (state_of p) offset timeout ≡ replied (state_of p) (reply.ShardFull (weight_in p.records + 64) weight_limit)
   full heavy =
       let all : state_weight (state_of p) ≡ weight_in p.records = weighed p tied in
       let none : leb (state_weight (state_of p) + session_weight) weight_limit ≡ false = lt-leb (state_weight (state_of p) + session_weight) weight_limit (omega (arith, heavy)) in
-      rw none (ap (λ n. replied (state_of p) (reply.ShardFull (n + 64) 268435456)) all)
+      rw none (ap (λ n. replied (state_of p) (reply.ShardFull (n + 64) weight_limit)) all)
 
   module _ (records : RecordsState) (sessions : List (ℕ × Roster)) (ids : All (λ (x : Session). x.id < offset) (sessions_of p.lists.sessions)) (charged : records ≡ record p.records { other = p.records.other + 64 })
       (are : sessions_of sessions ≡ with_session (record { id = offset; timeout = timeout }) (sessions_of p.lists.sessions))
@@ -59,7 +60,7 @@ module _ (p : Parts) (offset timeout : ℕ) (tied : IsTied p) where
       last : sessions_of sessions ≡ sessions_of p.lists.sessions ++ record { id = offset; timeout = timeout } ∷ []
       last = are ∙ with_session-last (record { id = offset; timeout = timeout }) (sessions_of p.lists.sessions) (all_below offset (sessions_of p.lists.sessions) ids)
 
-      pub opened-is : (done : Done) → weight_in p.records + 64 ≤ 268435456 → done ≡ record { replies = reply.Opened offset ∷ []; notices = [] } → applied_of (state_of (with_lists p records sessions p.lists.index)) done ≡ open_on (state_of p) offset timeout
+      pub opened-is : (done : Done) → weight_in p.records + 64 ≤ weight_limit → done ≡ record { replies = reply.Opened offset ∷ []; notices = [] } → applied_of (state_of (with_lists p records sessions p.lists.index)) done ≡ open_on (state_of p) offset timeout
       opened-is done light is = rw (charged, last, is) (sym (fits light))
 
       pub opened-tied : ((q : ℕ) → members_in q sessions ≡ members_in q p.lists.sessions) → IsTied (with_lists p records sessions p.lists.index)

@@ -20,14 +20,11 @@ use crate::parts::Parts;
 use ox_index::Index;
 use ox_ops::{Notice, OpReply};
 use ox_puts::Records;
-use ox_types::{Key, List, NoMemory};
+use ox_types::{Key, List, NoMemory, WEIGHT_LIMIT};
 use std::alloc::Global;
 
 /// What an open session weighs.
 const SESSION_WEIGHT: u64 = 64;
-
-/// The most that a shard may weigh.
-const WEIGHT_LIMIT: u64 = 268_435_456;
 
 /// Takes the record of the key out, and its entries out of the index.
 fn take_record(records: &mut Records, index: &mut Index, key: &Key)

@@ -1,11 +1,11 @@
 //! The state of a shard.
-ghost use Rattle.std.specs.Prelude.{◌≡◌, ◌<◌, ◌+◌, ◌^◌, map, false, None, IsTrue, IfOk, OnOk};
-ghost use Rattle.ox_ops.specs.State.{empty_state};
+ghost use Rattle.std.specs.Prelude.{◌≡◌, ◌<◌, ◌+◌, map, false, None, IsTrue, IfOk, OnOk};
+ghost use Rattle.ox_types.specs.Limits.{count_limit};
+ghost use Rattle.ox_ops.specs.State.{empty_state, timer_of};
 ghost use Rattle.ox_ops.specs.Apply.{apply_entry};
 ghost use Rattle.ox_ops.specs.Answer.{answer_to};
 ghost use Rattle.ox_ops.specs.Check.{command_fault};
 ghost use Rattle.ox_ops.specs.Forms.{command as command_form};
-ghost use Rattle.ox_session.specs.Members.{timer_of};
 ghost use Rattle.ox_shard.specs.Fits.{FitsCount, is_expire};
 
 use crate::parts::Parts;
@@ -62,7 +62,7 @@ impl ShardMachine {
         command: &ShardCommand,
     ) -> Result<ShardReply, NoMemory>
         requires fits { FitsCount id.offset self.old }
-        requires offset { id.offset < 2 ^ 53 }
+        requires offset { id.offset < count_limit }
         requires lawful { IsTrue (command_form.is_lawful command.now) }
         // A client's command is checked; a leader makes expiries.
         requires faultless { is_expire command.now ≡ false → command_fault command.now ≡ None }

@@ -1,5 +1,6 @@
 //! The parts of a shard, and the command of an entry at them.
-ghost use Rattle.std.specs.Prelude.{◌≡◌, ◌<◌, ◌+◌, ◌^◌, false, None, All, IsTrue, IfOk, OnOk};
+ghost use Rattle.std.specs.Prelude.{◌≡◌, ◌<◌, ◌+◌, false, None, All, IsTrue, IfOk, OnOk};
+ghost use Rattle.ox_types.specs.Limits.{count_limit};
 ghost use Rattle.ox_ops.specs.declared.notice.NoticeBatch.{NoticeBatch};
 ghost use Rattle.ox_ops.specs.State.{empty_state};
 ghost use Rattle.ox_ops.specs.Apply.{command_on, moved_to, retained, with_batch, apply_entry};
@@ -54,7 +55,7 @@ impl Parts {
     fn step(&mut self, offset: u64, command: &ShardCommand) -> Result<Done, NoMemory>
         requires tied { IsTied self.old }
         requires fits { FitsCount offset (state_of self.old) }
-        requires offset { offset < 2 ^ 53 }
+        requires offset { offset < count_limit }
         requires lawful { IsTrue (command_form.is_lawful command.now) }
         requires faultless { is_expire command.now ≡ false → command_fault command.now ≡ None }
         ensures done { IfOk result (λ done. applied_of (state_of self.new) done ≡ command_on (state_of self.old) offset command.now) }
@@ -98,7 +99,7 @@ impl Parts {
     ) -> Result<List<OpReply>, NoMemory>
         requires tied { IsTied self.old }
         requires fits { FitsCount offset (state_of self.old) }
-        requires offset { offset < 2 ^ 53 }
+        requires offset { offset < count_limit }
         requires lawful { IsTrue (command_form.is_lawful command.now) }
         requires faultless { is_expire command.now ≡ false → command_fault command.now ≡ None }
         ensures state { OnOk result (state_of self.new ≡ (apply_entry (state_of self.old) offset time command.now).state) }

@@ -4,12 +4,9 @@ use Rattle.std.specs.Prelude.{◌&&◌}
 use Rattle.std.specs.List.{list_all}
 use Rattle.std.proofs.lemmas.Bool.{and_parts, eqb-true, leb-true}
 use Rattle.ox_types.specs.declared.log.Entry.{Entry}
-use Rattle.ox_types.specs.declared.timer.Timer.{Timer}
 use Rattle.ox_types.specs.Durable.{may_follow}
 use Rattle.ox_machine.specs.Meaning.{Meaning}
 use Rattle.ox_machine.specs.Store.{IsBody, RunsFrom}
-use Rattle.ox_machine.specs.Laws.{IdsRise}
-use Rattle.ox_timer.specs.Order.{IdsRise as TimersRise}
 use Rattle.ox_solo_replica.specs.Advance.{is_entry, is_read}
 
 -- the first entry stands in its place, and the other ones follow it
@@ -24,11 +21,6 @@ may_follow-parts top term from e entries h =
     let b = and_parts (nat_eq e.offset from && nat_le term e.term) (nat_le e.term top) a.0 in
     let c = and_parts (nat_eq e.offset from) (nat_le term e.term) b.0 in
     record { offset = eqb-true e.offset from c.0; low = leb-true e.term top b.1; behind = a.1 }
-
--- the timers of a machine that keeps its laws
-pub ids_rise : (timers : List Timer) → IdsRise timers → TimersRise timers
-ids_rise [] h = h
-ids_rise (t ∷ timers) h = (h.0, ids_rise timers h.1)
 
 module _ {S C R Q A : Type 0} (M : Meaning S C R Q A) where
   pub runs_from : (top term from : ℕ) (entries : List Entry) → may_follow top term from entries ≡ true → list_all (is_entry M) entries ≡ true

@@ -11,8 +11,8 @@ use Rattle.ox_types.specs.declared.durable.LogView.{LogView}
 use Rattle.ox_types.specs.declared.refusal.Refusal.{Refusal}
 use Rattle.ox_types.specs.Durable.{DurableState, count_of, is_fenced}
 use Rattle.ox_bytes.specs.LogForms.{entry_blocks}
+use Rattle.ox_bytes.specs.Texts.{value_in}
 use Rattle.ox_machine.specs.Meaning.{Meaning}
-use Rattle.ox_machine.specs.Bytes.{value_in}
 use Rattle.ox_timer.specs.Timers.{due}
 use Rattle.ox_types.specs.declared.peer.Peer.{Peer}
 use Rattle.ox_types.specs.declared.peer.Peer.TheVariants as peer_is

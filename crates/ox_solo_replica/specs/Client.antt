@@ -11,9 +11,9 @@ use Rattle.ox_types.specs.declared.durable.LogView.{LogView}
 use Rattle.ox_types.specs.declared.refusal.Refusal.{Refusal}
 use Rattle.ox_types.specs.declared.refusal.Refusal.TheVariants.{NotLeader, Recovering, TooManyPending, LogSpent, LogFull, BadRequest}
 use Rattle.ox_bytes.specs.LogForms.{entry_blocks}
+use Rattle.ox_bytes.specs.Texts.{value_in}
 use Rattle.ox_wire.specs.declared.message.Outcome.TheVariants as outcome
 use Rattle.ox_machine.specs.Meaning.{Meaning}
-use Rattle.ox_machine.specs.Bytes.{value_in}
 use Rattle.ox_timer.specs.Timers.{heard}
 use Rattle.ox_solo_replica.specs.declared.leading.Leading.{Leading}
 use Rattle.ox_solo_replica.specs.declared.live.Live.{Live}

@@ -2,9 +2,9 @@
 ghost use Rattle.std.specs.Prelude.{◌≡◌, ◌+◌, ◌<◌, ◌≤◌, ◌^◌, [], ◌∷◌, ◌++◌, length, None, ℕ, List, IsTrue, IfOk};
 ghost use Rattle.ox_bytes.specs.Form.{IsBytes};
 ghost use Rattle.ox_bytes.specs.LogForms.{entry_blocks};
+ghost use Rattle.ox_bytes.specs.Texts.{value_in};
 ghost use Rattle.ox_types.specs.declared.log.Entry.{Entry as AnyEntry};
 ghost use Rattle.ox_types.specs.declared.log.EntryBody.TheVariants as entry_is;
-ghost use Rattle.ox_machine.specs.Bytes.{value_in};
 ghost use Rattle.ox_machine.specs.Laws.{command_limit};
 ghost use Rattle.ox_wire.specs.declared.message.Outcome.TheVariants as outcome_is;
 ghost use Rattle.ox_solo_replica.specs.Keeping.{IsSmall};

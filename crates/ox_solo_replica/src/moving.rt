@@ -1,8 +1,8 @@
 // A leader commits its entries.
 ghost use Rattle.std.specs.Prelude.{◌≡◌, ◌++◌, ◌+◌, ◌≤◌, ◌<◌, ◌^◌, ℕ, length, drop, nat_lt, IfOk, OnOk};
 ghost use Rattle.ox_types.specs.Durable.{count_of};
+ghost use Rattle.ox_types.specs.Timers.{IdsRise};
 ghost use Rattle.ox_machine.specs.Store.{state_from, RunsFrom};
-ghost use Rattle.ox_timer.specs.Order.{IdsRise};
 ghost use Rattle.ox_wal.specs.State.{state_of};
 ghost use Rattle.ox_solo_replica.specs.Sound.{IsSound};
 ghost use Rattle.ox_solo_replica.specs.Advance.{acks_of, still_pending};

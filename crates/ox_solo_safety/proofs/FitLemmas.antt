@@ -10,8 +10,8 @@ use Rattle.ox_bytes.specs.declared.fault.BadField.{BadField}
 use Rattle.ox_bytes.specs.Form.{Form, IsExact}
 use Rattle.ox_bytes.specs.Fields.{whole_of}
 use Rattle.ox_bytes.specs.FieldLaws.{whole_again}
+use Rattle.ox_bytes.specs.Texts.{placed, value_in}
 use Rattle.ox_machine.specs.Meaning.{Meaning, reads}
-use Rattle.ox_machine.specs.Bytes.{placed, value_in}
 use Rattle.ox_machine.specs.Laws.{CanApply, IsMachine}
 use Rattle.ox_machine.specs.Store.{id_of, if_read, command_of, after_command, after, reply_to_command, reply_to, state_from, state_after}
 use Rattle.ox_solo_safety.specs.Moments.{Has}

@@ -5,6 +5,7 @@ use Rattle.std.specs.List.{flat_map}
 use Rattle.std.proofs.lemmas.Bool.{leb-true, le-leb, lt-ltb, le-ltb}
 use Rattle.std.proofs.lemmas.Grind.{flat_map-append}
 use Rattle.std.proofs.lemmas.List.Elements.{filter-append}
+use Rattle.ox_bytes.specs.Texts.{value_in}
 use Rattle.ox_order.specs.declared.range.KeyRange.{KeyRange}
 use Rattle.ox_types.specs.declared.log.EntryId.{EntryId}
 use Rattle.ox_ops.specs.declared.write.Put.{Put}
@@ -28,7 +29,6 @@ use Rattle.ox_ops.specs.Answer.{items_in, items_after, notices_page, answer_to}
 use Rattle.ox_ops.specs.Page.{page_within, page_of, page_items, page_bytes, is_more, item_size}
 use Rattle.ox_types.specs.declared.log.Entry.{Entry}
 use Rattle.ox_types.specs.declared.bad.MachineFault.{MachineFault}
-use Rattle.ox_machine.specs.Bytes.{value_in}
 use Rattle.ox_machine.specs.Store.{id_of, command_of, after_command, after, state_from, state_after, answer_after}
 use Rattle.ox_meaning.specs.Shard.{shard_meaning}
 use Rattle.ox_wire.specs.declared.event.Request.{Request}

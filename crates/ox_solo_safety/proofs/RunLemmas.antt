@@ -6,7 +6,8 @@ use Rattle.std.proofs.Math.Seq.{take-length}
 use Rattle.ox_types.specs.declared.timer.Timer.{Timer}
 use Rattle.ox_machine.specs.Meaning.{Meaning}
 use Rattle.ox_machine.specs.Laws.{IsMachine}
-use Rattle.ox_meaning.specs.Shard.{timer_of, shard_meaning}
+use Rattle.ox_ops.specs.State.{timer_of}
+use Rattle.ox_meaning.specs.Shard.{shard_meaning}
 use Rattle.ox_wire.specs.Events.{RunEvent as Event}
 use Rattle.ox_solo_safety.specs.World.{World, opening_world}
 use Rattle.ox_solo_safety.specs.Run.{AreOfOneNode, world_after}

@@ -5,9 +5,9 @@ use Rattle.ox_types.specs.declared.log.Seat.TheVariants as seat
 use Rattle.ox_types.specs.declared.refusal.Refusal.{Refusal}
 use Rattle.ox_types.specs.declared.timer.Timer.{Timer}
 use Rattle.ox_types.specs.Durable.{DurableState}
+use Rattle.ox_bytes.specs.Texts.{value_in}
 use Rattle.ox_wire.specs.declared.message.Outcome.TheVariants as outcome
 use Rattle.ox_machine.specs.Meaning.{Meaning}
-use Rattle.ox_machine.specs.Bytes.{value_in}
 use Rattle.ox_machine.specs.Store.{after, reply_to}
 use Rattle.ox_timer.specs.declared.running.Running.{Running}
 use Rattle.ox_timer.specs.Timers.{started, starts, retimed, heard, noted}

@@ -18,6 +18,7 @@ use Rattle.ox_types.specs.declared.peer.Peer.TheVariants as peer
 use Rattle.ox_types.specs.Durable.{DurableState, count_of, is_fenced, table_of}
 use Rattle.ox_quorum.specs.declared.config.Config.{Config}
 use Rattle.ox_bytes.specs.LogForms.{entry_blocks}
+use Rattle.ox_bytes.specs.Texts.{value_in}
 use Rattle.ox_wire.specs.declared.body.Body.{Body}
 use Rattle.ox_wire.specs.declared.body.Body.TheVariants as body
 use Rattle.ox_wire.specs.declared.body.Asked.{Asked}
@@ -25,7 +26,6 @@ use Rattle.ox_wire.specs.declared.body.Asked.TheVariants as asked
 use Rattle.ox_wire.specs.declared.body.Follower.{Follower}
 use Rattle.ox_wire.specs.declared.message.Outcome.TheVariants as outcome
 use Rattle.ox_machine.specs.Meaning.{Meaning}
-use Rattle.ox_machine.specs.Bytes.{value_in}
 use Rattle.ox_machine.specs.Store.{after, reply_to, state_from, state_after}
 use Rattle.ox_timer.specs.declared.running.Running.{Running}
 use Rattle.ox_timer.specs.Timers.{started, retimed, heard, noted, due}

@@ -1,7 +1,7 @@
 -- Which requests the events of a run may carry.
 use Rattle.std.specs.Prelude.{◌≡◌, ℕ, Bool, true, false, List, slice_get, Some, Ok, IsTrue}
+use Rattle.ox_bytes.specs.Texts.{value_in}
 use Rattle.ox_machine.specs.Meaning.{Meaning}
-use Rattle.ox_machine.specs.Bytes.{value_in}
 use Rattle.ox_wire.specs.declared.event.Request.{Request}
 use Rattle.ox_wire.specs.Events.{RunEvent as Event}
 use Rattle.ox_wire.specs.declared.event.Turn.TheVariants as turn

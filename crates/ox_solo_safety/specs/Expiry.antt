@@ -3,8 +3,8 @@ use Rattle.std.specs.Prelude.{◌≡◌, ℕ, ◌+◌, ◌<◌, ◌≤◌, List,
 use Rattle.ox_types.specs.declared.log.Entry.{Entry}
 use Rattle.ox_types.specs.declared.log.EntryBody.TheVariants as body
 use Rattle.ox_types.specs.declared.timer.Timer.{Timer}
+use Rattle.ox_bytes.specs.Texts.{value_in}
 use Rattle.ox_machine.specs.Meaning.{Meaning}
-use Rattle.ox_machine.specs.Bytes.{value_in}
 use Rattle.ox_solo_replica.specs.declared.leading.Leading.{Leading}
 use Rattle.ox_solo_replica.specs.State.{ReplicaState}
 use Rattle.ox_wire.specs.Events.{RunEvent as Event}

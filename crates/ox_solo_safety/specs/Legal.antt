@@ -3,12 +3,12 @@ use Rattle.std.specs.Prelude.{◌≡◌, ◌≢◌, ℕ, ◌+◌, ◌-◌, ◌<�
 use Rattle.ox_types.specs.declared.log.Entry.{Entry}
 use Rattle.ox_types.specs.declared.log.EntryBody.TheVariants as body
 use Rattle.ox_types.specs.Durable.{DurableState}
+use Rattle.ox_bytes.specs.Texts.{value_in}
 use Rattle.ox_ops.specs.declared.query.ShardQuery.{ShardQuery}
 use Rattle.ox_ops.specs.declared.answer.ShardAnswer.{ShardAnswer}
 use Rattle.ox_wire.specs.declared.message.Outcome.{Outcome}
 use Rattle.ox_wire.specs.declared.message.Outcome.TheVariants as outcome
 use Rattle.ox_machine.specs.Meaning.{Meaning}
-use Rattle.ox_machine.specs.Bytes.{value_in}
 use Rattle.ox_machine.specs.Store.{state_after, reply_at, answer_after}
 use Rattle.ox_solo_replica.specs.State.{ReplicaState}
 use Rattle.ox_solo_replica.specs.Client.{fault_of}

@@ -2,6 +2,7 @@
 use Rattle.std.specs.Prelude.{◌≡◌, ℕ, ◌+◌, ◌<◌, ◌≤◌, nat_lt, Bool, false, List, [], ◌∷◌, ◌++◌, length, map, take, drop, Option, Some, None, Ok, if◌then◌else◌}
 use Rattle.ox_types.specs.declared.log.Entry.{Entry}
 use Rattle.ox_types.specs.declared.log.EntryId.{EntryId}
+use Rattle.ox_bytes.specs.Texts.{value_in}
 use Rattle.ox_ops.specs.declared.query.ShardQuery.{ShardQuery}
 use Rattle.ox_ops.specs.declared.query.ShardQuery.TheVariants as query
 use Rattle.ox_ops.specs.declared.answer.ShardAnswer.{ShardAnswer}
@@ -9,7 +10,6 @@ use Rattle.ox_ops.specs.declared.answer.ShardAnswer.TheVariants as answer
 use Rattle.ox_ops.specs.declared.notice.Notice.{Notice}
 use Rattle.ox_ops.specs.declared.notice.NoticeItem.{NoticeItem}
 use Rattle.ox_machine.specs.Meaning.{Meaning}
-use Rattle.ox_machine.specs.Bytes.{value_in}
 use Rattle.ox_machine.specs.Store.{id_of, command_of, after, state_after}
 use Rattle.ox_wire.specs.Events.{RunEvent as Event}
 use Rattle.ox_solo_safety.specs.Moments.{history_at, CameBefore, Reads}

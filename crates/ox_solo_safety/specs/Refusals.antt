@@ -7,10 +7,10 @@ use Rattle.ox_types.specs.declared.refusal.Refusal.TheVariants.{OldTerm, Unknown
 use Rattle.ox_types.specs.declared.peer.Peer.TheVariants.{Node}
 use Rattle.ox_types.specs.Durable.{count_of}
 use Rattle.ox_bytes.specs.LogForms.{entry_blocks}
+use Rattle.ox_bytes.specs.Texts.{value_in}
 use Rattle.ox_wire.specs.declared.body.Body.TheVariants as body
 use Rattle.ox_wire.specs.declared.message.Outcome.TheVariants as outcome
 use Rattle.ox_machine.specs.Meaning.{Meaning}
-use Rattle.ox_machine.specs.Bytes.{value_in}
 use Rattle.ox_solo_replica.specs.declared.leading.Leading.{Leading}
 use Rattle.ox_solo_replica.specs.State.{ReplicaState, view_of, clock_limit}
 use Rattle.ox_solo_replica.specs.Client.{fault_of, grammar, command_entry, room_of}

@@ -1,7 +1,7 @@
 -- The bytes by which an answer says a value.
 use Rattle.std.specs.Prelude.{◌≡◌, ℕ, List, Ok}
 use Rattle.ox_bytes.specs.Form.{Form}
-use Rattle.ox_machine.specs.Bytes.{value_in}
+use Rattle.ox_bytes.specs.Texts.{value_in}
 
 -- they are the text of the value, and who reads them finds that value
 pub record Says {A : Type 0} (form : Form A) (bytes : List ℕ) (x : A) : Type 0 where

@@ -1,5 +1,6 @@
 // A machine runs a history, by its bound alone.
-ghost use Rattle.std.specs.Prelude.{◌≡◌, ◌≤◌, ◌<◌, ◌+◌, ◌^◌, IfOk, OnOk};
+ghost use Rattle.std.specs.Prelude.{◌≡◌, ◌≤◌, ◌<◌, ◌+◌, IfOk, OnOk};
+ghost use Rattle.ox_types.specs.Limits.{count_limit, time_limit};
 
 use crate::spell::spelled;
 use ox_machine::{Machine, apply_entry};
@@ -31,8 +32,8 @@ fn entry(offset: u64, time: u64, command: Octets) -> Entry
 /// The reply to the entry.
 fn applied<M: Machine>(alloc: Global, machine: &mut M, entry: &Entry) -> Result<Octets, Fail>
     requires fits { M.meaning.fits entry.now.offset machine.old }
-    requires offset { entry.now.offset < 2 ^ 53 }
-    requires time { entry.now.time ≤ 2 ^ 53 }
+    requires offset { entry.now.offset < count_limit }
+    requires time { entry.now.time ≤ time_limit }
     ensures { OnOk result (M.meaning.fits (entry.now.offset + 1) machine.new) }
 {
     match apply_entry(alloc, machine, entry)? {

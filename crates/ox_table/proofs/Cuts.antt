@@ -8,10 +8,11 @@ use Rattle.std.specs.declared.cmp.Ordering.TheVariants.{Less, Equal, Greater}
 use Rattle.std.proofs.lemmas.Bool.{cases_lt}
 use Rattle.ox_types.specs.Order.{key_cmp}
 use Rattle.ox_types.specs.OrderLaws.{key_total}
+use Rattle.ox_types.specs.Lists.{IsCut}
 use Rattle.ox_order.specs.Range.{is_from, is_up_to, in_range}
 use Rattle.ox_order.specs.declared.range.KeyRange.{KeyRange}
 use Rattle.ox_table.specs.Table.{Pairs}
-use Rattle.ox_table.specs.Place.{IsCut, IsRunOf}
+use Rattle.ox_table.specs.Place.{IsRunOf}
 use Rattle.ox_table.proofs.Filters.{filter_none, filter_run, filter_sides, filter_front, filter_back, find_first}
 
 module _ {X : Type 0} {xs : List X} {n : ℕ} (t : X → Bool) (h : IsCut t xs n) where

@@ -1,5 +1,5 @@
 -- Places in a list of pairs, as a search by key answers them.
-use Rattle.std.specs.Prelude.{◌≡◌, ℕ, ◌+◌, ◌-◌, ◌<◌, ◌≤◌, Bool, true, false, List, ◌++◌, length, take, drop}
+use Rattle.std.specs.Prelude.{◌≡◌, ℕ, ◌+◌, ◌-◌, ◌<◌, ◌≤◌, List, ◌++◌, length, take, drop}
 use Rattle.std.specs.List.{HoldsAt, AllWithin}
 use Rattle.std.specs.declared.cmp.Ordering.TheVariants.{Less, Equal, Greater}
 use Rattle.ox_types.specs.Order.{key_cmp}
@@ -18,12 +18,6 @@ pub record IsGapFor {V : Type 0} (pairs : Pairs V) (key : List ℕ) (place : ℕ
   pub inside : place ≤ length pairs
   pub less : AllWithin (λ p. key_cmp p.0 key ≡ Less) pairs 0 place
   pub greater : AllWithin (λ p. key_cmp p.0 key ≡ Greater) pairs place (length pairs)
-
--- the first n pass the test, and the others fail it
-pub record IsCut {X : Type 0} (test : X → Bool) (xs : List X) (n : ℕ) : Type 0 where
-  pub inside : n ≤ length xs
-  pub front : AllWithin (λ x. test x ≡ true) xs 0 n
-  pub back : AllWithin (λ x. test x ≡ false) xs n (length xs)
 
 -- the pairs from start up to end are those in the range
 pub record IsRunOf {V : Type 0} (pairs : Pairs V) (range : KeyRange) (start end : ℕ) : Type 0 where

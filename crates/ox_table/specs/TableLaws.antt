@@ -12,25 +12,10 @@ use Rattle.std.proofs.lemmas.List.Sums.{sum_by-append, sum_by-cons}
 use Rattle.std.proofs.lemmas.List.Filters.{sum_by-filter_both}
 use Rattle.ox_types.specs.Order.{key_cmp, IsBefore}
 use Rattle.ox_types.specs.OrderLaws.{key_total, key_anti, key_turned}
+use Rattle.ox_types.specs.Comparisons.{less_of, equal_of, greater_of}
 use Rattle.ox_order.specs.Range.{in_range}
 use Rattle.ox_order.specs.declared.range.KeyRange.{KeyRange}
 use Rattle.ox_table.specs.Table.{Pairs, IsBelow, IsRising, below, having, above, table_get, inserted, removed, within, without}
-
--- what a test of a comparison shows
-less_of : (r : Ordering) → is_lt r ≡ true → r ≡ Less
-less_of Less e = refl
-less_of Equal e = cc e
-less_of Greater e = cc e
-
-equal_of : (r : Ordering) → is_eq r ≡ true → r ≡ Equal
-equal_of Less e = cc e
-equal_of Equal e = refl
-equal_of Greater e = cc e
-
-greater_of : (r : Ordering) → is_gt r ≡ true → r ≡ Greater
-greater_of Less e = cc e
-greater_of Equal e = cc e
-greater_of Greater e = refl
 
 -- ---- the order of the pairs
 

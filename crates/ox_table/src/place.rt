@@ -2,9 +2,10 @@
 ghost use Rattle.std.specs.Prelude.{MatchResult, not};
 ghost use Rattle.std.specs.Ordering.{is_lt, is_le};
 ghost use Rattle.ox_types.specs.Order.{key_cmp};
+ghost use Rattle.ox_types.specs.Lists.{IsCut};
 ghost use Rattle.ox_order.specs.Range.{is_from, is_up_to};
 ghost use Rattle.ox_table.specs.Table.{IsRising};
-ghost use Rattle.ox_table.specs.Place.{IsPlaceOf, IsGapFor, IsCut, IsRunOf};
+ghost use Rattle.ox_table.specs.Place.{IsPlaceOf, IsGapFor, IsRunOf};
 
 use ox_order::{Hi, KeyRange, Lo};
 use ox_types::Key;

@@ -6,8 +6,9 @@ use Rattle.std.proofs.lemmas.Bool.Decides.{nat_tests}
 use Rattle.std.proofs.lemmas.List.Elements.{All-map}
 use Rattle.std.proofs.lemmas.List.{drop_all}
 use Rattle.ox_types.specs.declared.timer.Timer.{Timer}
+use Rattle.ox_types.specs.Timers.{IdsRise}
 use Rattle.ox_timer.specs.declared.running.Running.{Running}
-use Rattle.ox_timer.specs.Order.{IdsRise, RunningRise}
+use Rattle.ox_timer.specs.Order.{RunningRise}
 use Rattle.ox_timer.specs.Timers.{running_at, goes_on, retimed, from_id}
 
 pub different : (a b : ℕ) → b < a → nat_eq a b ≡ false

@@ -1,8 +1,9 @@
 // What holds of timers that go on or start anew, and of the one that is due.
 ghost use Rattle.std.specs.Prelude.{◌≡◌, ◌≢◌, ◌≤◌, ◌+◌, ◌⊎◌, ℕ, List, Contains, All, Some, None, true, false, map};
 ghost use Rattle.ox_types.specs.declared.timer.Timer.{Timer};
+ghost use Rattle.ox_types.specs.Timers.{IdsRise};
 ghost use Rattle.ox_timer.specs.declared.running.Running.{Running};
-ghost use Rattle.ox_timer.specs.Order.{IdsRise, RunningRise};
+ghost use Rattle.ox_timer.specs.Order.{RunningRise};
 ghost use Rattle.ox_timer.specs.Timers.{retimed, heard, noted, is_due, due};
 
 /// The timers that go on are those of the machine, and each of them starts now or goes on as it ran.

@@ -1,7 +1,8 @@
 //! The timers of a machine beside those that ran before.
 ghost use Rattle.std.specs.Prelude.{◌≡◌, ◌≤◌, length, drop, slice_get, IfOk};
 ghost use Rattle.std.specs.Option.{ForSome};
-ghost use Rattle.ox_timer.specs.Order.{IdsRise, RunningRise};
+ghost use Rattle.ox_types.specs.Timers.{IdsRise};
+ghost use Rattle.ox_timer.specs.Order.{RunningRise};
 ghost use Rattle.ox_timer.specs.Timers.{from_id, goes_on, running_at, retimed};
 
 use crate::running::Running;

@@ -1,5 +1,6 @@
 ghost use Rattle.std.specs.Prelude.{◌≡◌, [], IfOk, OnOk, OnErr};
-ghost use Rattle.ox_timer.specs.Order.{IdsRise, RunningRise};
+ghost use Rattle.ox_types.specs.Timers.{IdsRise};
+ghost use Rattle.ox_timer.specs.Order.{RunningRise};
 ghost use Rattle.ox_timer.specs.Timers.{started, retimed, heard, noted, due};
 
 use crate::find::{first_due, place_of};

@@ -3,6 +3,7 @@ use Rattle.std.proofs.Common.{◌≡◌, ℕ, Bool, true, false, cond, List, [],
 use Rattle.std.specs.Prelude.{option_and_then}
 use Rattle.std.specs.Result.{result_ok}
 use Rattle.std.proofs.lemmas.List.{append-nil}
+use Rattle.std.proofs.lemmas.Option.{same_Some}
 use Rattle.ox_types.specs.declared.durable.Action.{Action}
 use Rattle.ox_types.specs.declared.durable.Action.TheVariants as action_is
 use Rattle.ox_types.specs.Durable.{DurableState, blank, is_lawful, folded, fold_on, fold_actions}
@@ -10,9 +11,6 @@ use Rattle.ox_bytes.specs.FieldLaws.{whole_again}
 use Rattle.ox_wal.specs.ActionForms.{actions}
 use Rattle.ox_wal.specs.ActionLaws.{actions_exact}
 use Rattle.ox_wal.specs.Files.{actions_of, joined, actions_in, still_first, state_in}
-
-some_is : {A : Type 0} (x y : A) → Some x ≡ Some y → x ≡ y
-some_is x y h = cc
 
 passes : (b : Bool) (o : Option DurableState) (d : DurableState) → cond b o None ≡ Some d → (b ≡ true) × (o ≡ Some d)
 passes true o d h = (refl, h)
@@ -27,7 +25,7 @@ never_first [] = refl
 never_first (a ∷ others) = refl
 
 pub fold-append : (first : Bool) (d : DurableState) (xs ys : List Action) (between : DurableState) → fold_on first d xs ≡ Some between → fold_on first d (xs ++ ys) ≡ fold_on (still_first first xs) between ys
-fold-append first d [] ys between h = ap (λ (s : DurableState). fold_on first s ys) (some_is d between h)
+fold-append first d [] ys between h = ap (λ (s : DurableState). fold_on first s ys) (same_Some d between h)
 fold-append first d (x ∷ xs) ys between h =
     let p = passes (is_lawful first d x) (fold_on false (folded d x) xs) between h in
     rw p.0 (fold-append false (folded d x) xs ys between p.1 ∙ ap (λ (b : Bool). fold_on b between ys) (never_first xs))
@@ -50,11 +48,11 @@ fold_first first d (x ∷ xs) behind h =
 pub joined_parts : (a b : Option (List Action)) (xs : List Action) → joined a b ≡ Some xs → (first : List Action) × (others : List Action) × (a ≡ Some first) × (b ≡ Some others) × (first ++ others ≡ xs)
 joined_parts None b xs h = absurd cc
 joined_parts (Some first) None xs h = absurd cc
-joined_parts (Some first) (Some others) xs h = (first, others, refl, refl, some_is (first ++ others) xs h)
+joined_parts (Some first) (Some others) xs h = (first, others, refl, refl, same_Some (first ++ others) xs h)
 
 pub actions-push : (payloads : List (List ℕ)) (payload : List ℕ) (xs ys : List Action) → actions_in payloads ≡ Some xs → actions_of payload ≡ Some ys → actions_in (payloads ++ payload ∷ []) ≡ Some (xs ++ ys)
 actions-push [] payload xs ys h k =
-    let none : [] ≡ xs = some_is [] xs h in
+    let none : [] ≡ xs = same_Some [] xs h in
     ap (λ (o : Option (List Action)). joined o (Some [])) k ∙ ap (λ (l : List Action). Some l) (append-nil ys ∙ ap (λ (l : List Action). l ++ ys) none)
 actions-push (p ∷ payloads) payload xs ys h k =
     let parts = joined_parts (actions_of p) (actions_in payloads) xs h in

@@ -10,6 +10,7 @@ use Rattle.ox_types.specs.declared.log.Seat.{Seat}
 use Rattle.ox_types.specs.declared.durable.Action.{Action}
 use Rattle.ox_types.specs.declared.durable.Action.TheVariants as action_is
 use Rattle.ox_types.specs.Durable.{DurableState, is_lawful, folded, fold_on}
+use Rattle.ox_types.specs.Limits.{count_limit}
 use Rattle.ox_bytes.specs.LogForms.{term, count, seat, entry, head}
 use Rattle.ox_bytes.specs.Fields.{number64, octets}
 use Rattle.ox_wal.specs.ActionForms.{action}
@@ -21,7 +22,7 @@ unfolding action
 append_lawful a es is h = (and_parts _ (list_all entry.is_lawful es) (ap (λ (b : Action). action.is_lawful b) (sym is) ∙ h)).1
 
 -- the head of a lawful Restore
-pub restore_lawful : (a : Action) (t : ℕ) (s : Seat) (h : Head) (b : List ℕ) → a ≡ action_is.Restore t s h b → action.is_lawful a ≡ true → h.count ≤ 9007199254740992
+pub restore_lawful : (a : Action) (t : ℕ) (s : Seat) (h : Head) (b : List ℕ) → a ≡ action_is.Restore t s h b → action.is_lawful a ≡ true → h.count ≤ count_limit
 unfolding action head
 restore_lawful a t s h b is lawful =
     let all : action.is_lawful (action_is.Restore t s h b) ≡ true = ap (λ (b : Action). action.is_lawful b) (sym is) ∙ lawful in
@@ -29,7 +30,7 @@ restore_lawful a t s h b is lawful =
     let behind = (and_parts (seat.is_lawful s) (head.is_lawful h && octets.is_lawful b) rest).1 in
     let whole = (and_parts (head.is_lawful h) (octets.is_lawful b) behind).0 in
     let number = (and_parts (term.is_lawful h.term) (count.is_lawful h.count) whole).1 in
-    leb-true h.count 9007199254740992 (and_parts (number64.is_lawful h.count) (leb h.count 9007199254740992) number).1
+    leb-true h.count count_limit (and_parts (number64.is_lawful h.count) (leb h.count count_limit) number).1
 
 -- an item of lawful actions is lawful
 pub item_lawful : (actions : List Action) (i : ℕ) (a : Action) → list_all action.is_lawful actions ≡ true → i < length actions → a ≡ get_or actions i a → action.is_lawful a ≡ true

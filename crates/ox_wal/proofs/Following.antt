@@ -7,6 +7,7 @@ use Rattle.ox_types.specs.declared.log.Head.{Head}
 use Rattle.ox_types.specs.declared.log.Entry.{Entry}
 use Rattle.ox_types.specs.Log.{head_from}
 use Rattle.ox_types.specs.Durable.{may_follow}
+use Rattle.ox_types.specs.Limits.{count_limit, offset_limit}
 use Rattle.ox_bytes.specs.LogForms.{entry}
 use Rattle.ox_wal.specs.Follow.{last_term}
 
@@ -58,7 +59,7 @@ follow-higher top higher t c (x ∷ xs) le h =
     follow_from higher t c x xs p.0 p.1 (let below : x.term ≤ top = p.2 in omega arith) (follow-higher top higher x.term (c + 1) xs le p.3)
 
 -- a lawful entry's offset
-pub lawful_offset : (e : Entry) → entry.is_lawful e ≡ true → e.offset ≤ 9007199254740991
+pub lawful_offset : (e : Entry) → entry.is_lawful e ≡ true → e.offset ≤ offset_limit
 unfolding entry
 lawful_offset e h =
     let a = and_parts _ _ h in
@@ -66,7 +67,7 @@ lawful_offset e h =
     let d = and_parts _ _ b.0 in
     leb-true _ _ d.1
 
-pub follow_small : (top t c : ℕ) (xs : List Entry) → may_follow top t c xs ≡ true → list_all entry.is_lawful xs ≡ true → c ≤ 9007199254740992 → c + length xs ≤ 9007199254740992
+pub follow_small : (top t c : ℕ) (xs : List Entry) → may_follow top t c xs ≡ true → list_all entry.is_lawful xs ≡ true → c ≤ count_limit → c + length xs ≤ count_limit
 follow_small top t c [] h all small = rw add-zero small
 follow_small top t c (x ∷ xs) h all small =
     let p = follow_parts top t c x xs h in
@@ -77,7 +78,7 @@ follow_small top t c (x ∷ xs) h all small =
     omega arith
 
 -- the offset of a lawful item
-pub item_offset : (es : List Entry) (i : ℕ) (e : Entry) → list_all entry.is_lawful es ≡ true → i < length es → e ≡ get_or es i e → e.offset ≤ 9007199254740991
+pub item_offset : (es : List Entry) (i : ℕ) (e : Entry) → list_all entry.is_lawful es ≡ true → i < length es → e ≡ get_or es i e → e.offset ≤ offset_limit
 item_offset [] i e all lt is = absurd (omega arith)
 item_offset (x ∷ es) zero e all lt is =
     let same : e.offset ≡ x.offset = ap (λ (y : Entry). y.offset) is in
@@ -104,7 +105,7 @@ module _ (top : ℕ) (base : Head) (es more : List Entry) (h : may_follow top ba
   pub append_follows : may_follow top base.term base.count (es ++ more) ≡ true
   append_follows = follow-append top base.term base.count es more h behind
 
-  pub append_small : list_all entry.is_lawful more ≡ true → base.count + length es ≤ 9007199254740992 → base.count + length (es ++ more) ≤ 9007199254740992
+  pub append_small : list_all entry.is_lawful more ≡ true → base.count + length es ≤ count_limit → base.count + length (es ++ more) ≤ count_limit
   append_small all small =
       let n = follow_small top (last_term base.term es) (base.count + length es) more behind all small in
       omega (arith, length-append es more)

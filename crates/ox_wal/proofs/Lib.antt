@@ -1,4 +1,3 @@
-pub mod EntrySize
 pub mod Following
 pub mod Drafts
 pub mod Folding

@@ -3,10 +3,10 @@ use Rattle.std.proofs.Common.{◌≡◌, ◌⊎◌, inl, inr, ⊎_elim, ℕ, ◌
 use Rattle.std.proofs.lemmas.List.{append-nil, get_or-append-add}
 use Rattle.ox_types.specs.declared.durable.Action.{Action}
 use Rattle.ox_types.specs.Durable.{DurableState, blank, fold_on}
+use Rattle.ox_types.specs.Lists.{first_of}
 use Rattle.ox_outside.specs.Disk.{Shown, Quiet}
 use Rattle.ox_journal.specs.Half.{be32, record_text, records_text, front}
 use Rattle.ox_journal.specs.Next.{next_of, StandsAt}
-use Rattle.ox_journal.specs.Opening.{first_of}
 use Rattle.ox_journal.specs.Pair.{IsHalf, IsOpen, IsReading}
 use Rattle.ox_journal.specs.declared.reading.Next.TheVariants.{Cut}
 use Rattle.ox_wal.specs.declared.fault.WalFault.TheVariants.{Damaged}

@@ -1,5 +1,6 @@
 -- The forms of actions are exact.
 use Rattle.std.proofs.Common.{◌≡◌, ℕ, List, Some, refl, sym, ap}
+use Rattle.std.proofs.lemmas.Option.{same_Some}
 use Rattle.ox_types.specs.declared.log.Head.{Head}
 use Rattle.ox_types.specs.declared.log.Entry.{Entry}
 use Rattle.ox_types.specs.declared.log.Seat.{Seat}
@@ -16,9 +17,6 @@ use Rattle.ox_wal.specs.ActionForms.{action_tag, action_term, action_attach, act
 -- the fields of a Restore
 abbrev Restored : Type 0
 Restored = ℕ × (Seat × (Head × List ℕ))
-
-some_is : {A : Type 0} (x y : A) → Some x ≡ Some y → x ≡ y
-some_is x y h = cc
 
 action_term_there : (x : Action) (a : ℕ) → action_term x ≡ Some a → action_is.Term a ≡ x
 action_term_there (action_is.Term k) a h = cc
@@ -38,7 +36,7 @@ action_append_there _ a h = absurd cc
 
 action_restore_there : (x : Action) (a : Restored) → action_restore x ≡ Some a → action_is.Restore a.0 a.1.0 a.1.1.0 a.1.1.1 ≡ x
 action_restore_there (action_is.Restore k l m n) a h =
-    sym (ap (λ (p : Restored). action_is.Restore p.0 p.1.0 p.1.1.0 p.1.1.1) (some_is (k, (l, (m, n))) a h))
+    sym (ap (λ (p : Restored). action_is.Restore p.0 p.1.0 p.1.1.0 p.1.1.1) (same_Some (k, (l, (m, n))) a h))
 action_restore_there _ a h = absurd cc
 
 pub action_exact : IsExact action

@@ -2,6 +2,7 @@
 use Rattle.std.specs.Prelude.{◌≡◌, ◌+◌, ◌≤◌, true, List, ◌++◌, length, take}
 use Rattle.ox_types.specs.declared.log.Entry.{Entry}
 use Rattle.ox_types.specs.Durable.{DurableState, may_follow}
+use Rattle.ox_types.specs.Limits.{count_limit}
 use Rattle.ox_wal.specs.Blocks.{blocks_used}
 use Rattle.ox_wal.specs.declared.log.Log.{Log}
 use Rattle.ox_wal.specs.declared.draft.Draft.{Draft}
@@ -23,4 +24,4 @@ pub record IsDraft (log : Log) (draft : Draft) : Type 0 where
   pub keeps : draft.keep ≤ length log.entries.items
   pub counted : draft.used ≡ blocks_used (drafted_entries log draft)
   pub follows : may_follow draft.term log.base.term log.base.count (drafted_entries log draft) ≡ true
-  pub small : log.base.count + length (drafted_entries log draft) ≤ 9007199254740992
+  pub small : log.base.count + length (drafted_entries log draft) ≤ count_limit

@@ -4,6 +4,7 @@ ghost use Rattle.ox_types.specs.declared.log.Seat.TheVariants.{Attached};
 ghost use Rattle.std.specs.List.{list_all};
 ghost use Rattle.ox_types.specs.declared.durable.Action.TheVariants as action_is;
 ghost use Rattle.ox_types.specs.Durable.{count_of, head_of, folded, is_lawful, fold_on, may_follow};
+ghost use Rattle.ox_types.specs.Limits.{count_limit};
 ghost use Rattle.ox_bytes.specs.LogForms.{entry as entry_form};
 ghost use Rattle.ox_wal.specs.ActionForms.{action as action_form};
 ghost use Rattle.ox_wal.specs.Blocks.{full_at, first_full};
@@ -74,7 +75,7 @@ impl Log {
     fn drafted_count(&self, draft: &Draft) -> u64
         requires { IsDraft self.now draft.now }
         ensures count { result ≡ count_of (drafted self.now draft.now) }
-        ensures small { result ≤ 9007199254740992 }
+        ensures small { result ≤ count_limit }
     {
         self.base.count + draft.keep as u64 + draft.staged.len() as u64
     }

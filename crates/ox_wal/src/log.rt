@@ -1,6 +1,7 @@
 // The durable state in memory.
 ghost use Rattle.std.specs.Prelude.{◌≡◌, ◌+◌, ◌≤◌, true, length};
 ghost use Rattle.ox_types.specs.Durable.{may_follow};
+ghost use Rattle.ox_types.specs.Limits.{count_limit};
 ghost use Rattle.ox_wal.specs.Blocks.{blocks_used};
 
 use ox_types::{Entry, Head, Octets, Seat, Term};
@@ -17,5 +18,5 @@ pub struct Log {
     pub used: u64,
     ghost counted: { used ≡ blocks_used entries.items },
     ghost follows: { may_follow term base.term base.count entries.items ≡ true },
-    ghost small: { base.count + length entries.items ≤ 9007199254740992 },
+    ghost small: { base.count + length entries.items ≤ count_limit },
 }

@@ -4,6 +4,7 @@ ghost use Rattle.std.specs.List.{list_all};
 ghost use Rattle.ox_types.specs.declared.durable.Action.{Action as ActionIs};
 ghost use Rattle.ox_types.specs.declared.durable.Action.TheVariants as action_is;
 ghost use Rattle.ox_types.specs.Durable.{folded, is_lawful, fold_on};
+ghost use Rattle.ox_types.specs.Limits.{count_limit};
 ghost use Rattle.ox_wal.specs.ActionForms.{action as action_form};
 ghost use Rattle.ox_wal.specs.Files.{actions_of, still_first};
 ghost use Rattle.ox_wal.specs.State.{state_of};
@@ -41,7 +42,7 @@ impl Log {
         head: Head,
         saved: &Octets,
     ) -> Result<(), DraftFault>
-        requires { head.count ≤ 9007199254740992 }
+        requires { head.count ≤ count_limit }
         ensures lawful { OnOk result (is_lawful true (state_of self.old) (action_is.Restore term seat head saved.now) ≡ true) }
         ensures state { OnOk result (state_of self.new ≡ folded (state_of self.old) (action_is.Restore term seat head saved.now)) }
         ensures unlawful { result ≡ Err Unlawful → is_lawful true (state_of self.old) (action_is.Restore term seat head saved.now) ≡ false }

@@ -5,6 +5,7 @@ use Rattle.std.specs.List.{list_all}
 use Rattle.std.proofs.lemmas.Bool.{and_parts, and_from, leb-true, le-leb, ltb-true, lt-ltb, eqb-true}
 use Rattle.ox_types.specs.declared.log.Entry.{Entry}
 use Rattle.ox_types.specs.Durable.{may_follow}
+use Rattle.ox_types.specs.Limits.{term_limit, count_limit}
 use Rattle.ox_bytes.specs.Fields.{number32}
 use Rattle.ox_bytes.specs.LogForms.{term, count, entry_offset, entry_time, entry_body, entry, term_table}
 use Rattle.ox_bytes.specs.Lists.{is_course}
@@ -21,10 +22,11 @@ use Rattle.ox_wire.proofs.Rising.{RisesFrom, rising, rises_of}
 pub bounded : (most n : ℕ) → nat_lt n (2 ^ 64) && nat_le n most ≡ true → n ≤ most
 bounded most n h = leb-true n most (and_parts (nat_lt n (2 ^ 64)) (nat_le n most) h).1
 
-pub within : (n : ℕ) → n ≤ 9007199254740992 → nat_lt n (2 ^ 64) && nat_le n 9007199254740992 ≡ true
-within n h =
+pub within : (most n : ℕ) → nat_lt most (2 ^ 64) ≡ true → n ≤ most → nat_lt n (2 ^ 64) && nat_le n most ≡ true
+within most n small h =
+    let top : most < 18446744073709551616 = ltb-true most 18446744073709551616 small in
     let lt : n < 18446744073709551616 = omega arith in
-    and_from _ _ (lt-ltb n 18446744073709551616 lt) (le-leb n 9007199254740992 h)
+    and_from _ _ (lt-ltb n 18446744073709551616 lt) (le-leb n most h)
 
 follow_is : (top least next : ℕ) (es : List Entry) → is_course (entries_course top) (least, next) es ≡ true → may_follow top least next es ≡ true
 unfolding entry_behind
@@ -62,9 +64,9 @@ append_is t from c es h =
     let items = and_parts (nat_lt (length es) (2 ^ 32) && nat_le (length es) 64) (is_course (entries_course t) (0, from) es) three.1 in
     let listed = and_parts (nat_lt (length es) (2 ^ 32)) (list_all entry.is_lawful es) (entries_lawful t from es three.1) in
     record {
-      small_term = bounded 9007199254740992 t one.0;
-      small_from = bounded 9007199254740992 from two.0;
-      small_commit = bounded 9007199254740992 c three.0;
+      small_term = bounded term_limit t one.0;
+      small_from = bounded count_limit from two.0;
+      small_commit = bounded count_limit c three.0;
       few = leb-true (length es) 64 (and_parts (nat_lt (length es) (2 ^ 32)) (nat_le (length es) 64) items.0).1;
       each = listed.1;
       in_order = follow_is t 0 from es items.1;
@@ -76,7 +78,7 @@ append_from t from c es a =
     let few = a.few in
     let lt : length es < 4294967296 = omega (arith, few) in
     let number = and_from (nat_lt (length es) (2 ^ 32)) (nat_le (length es) 64) (lt-ltb (length es) 4294967296 lt) (le-leb (length es) 64 few) in
-    and_from _ _ (within t a.small_term) (and_from _ _ (within from a.small_from) (and_from _ _ (within c a.small_commit) (and_from _ _ number (follow_from t 0 from es a.each a.in_order))))
+    and_from _ _ (within term_limit t refl a.small_term) (and_from _ _ (within count_limit from refl a.small_from) (and_from _ _ (within count_limit c refl a.small_commit) (and_from _ _ number (follow_from t 0 from es a.each a.in_order))))
 
 abbrev nodes_of : List Follower → List ℕ
 nodes_of fs = map (λ f. f.node) fs
@@ -105,7 +107,7 @@ become_leader_is t c fs h =
     let items = and_parts (nat_lt (length fs) (2 ^ 32)) (is_course followers_course 0 fs) two.1 in
     let listed = and_parts (nat_lt (length fs) (2 ^ 32)) (list_all follower.is_lawful fs) (followers_lawful fs two.1) in
     record {
-      small_term = bounded 9007199254740992 t one.0;
+      small_term = bounded term_limit t one.0;
       lawful_config = two.0;
       countable = ltb-true (length fs) 4294967296 items.0;
       each = listed.1;
@@ -115,4 +117,4 @@ become_leader_is t c fs h =
 pub become_leader_from : (t : ℕ) (c : Config) (fs : List Follower) → IsBecomeLeader t c fs → IsTrue (body.is_lawful (body_is.BecomeLeader t c fs))
 unfolding body
 become_leader_from t c fs b =
-    and_from _ _ (within t b.small_term) (and_from _ _ b.lawful_config (and_from _ _ (lt-ltb (length fs) 4294967296 b.countable) (course_from 0 fs b.each (rises_of 0 (nodes_of fs) (λ some. omega arith) b.rising))))
+    and_from _ _ (within term_limit t refl b.small_term) (and_from _ _ b.lawful_config (and_from _ _ (lt-ltb (length fs) 4294967296 b.countable) (course_from 0 fs b.each (rises_of 0 (nodes_of fs) (λ some. omega arith) b.rising))))

@@ -4,6 +4,7 @@ use Rattle.std.specs.Prelude.{◌&&◌, nat_le, nat_lt, IsTrue}
 use Rattle.std.proofs.lemmas.Bool.{and_parts, and_from, leb-true, le-leb, ltb-true, lt-ltb}
 use Rattle.ox_types.specs.declared.log.TermRun.{TermRun}
 use Rattle.ox_types.specs.declared.log.TermTable.{TermTable}
+use Rattle.ox_types.specs.Limits.{term_limit, count_limit, offset_limit}
 use Rattle.ox_bytes.specs.Lists.{is_course}
 use Rattle.ox_bytes.specs.LogForms.{term, count, entry_offset, head, run_from, runs_course, runs_behind, term_table}
 use Rattle.ox_wire.specs.Rules.{IsRunBehind, IsTable}
@@ -18,7 +19,7 @@ lasts_of runs = map (λ r. r.last) runs
 
 -- a run within its bounds, and not below this term and this offset
 abbrev IsRunFrom : ℕ → ℕ → TermRun → Type 0
-IsRunFrom least least_last r = (r.term ≤ 9007199254740992) × (r.last ≤ 9007199254740991) × (least ≤ r.term) × (least_last ≤ r.last)
+IsRunFrom least least_last r = (r.term ≤ term_limit) × (r.last ≤ offset_limit) × (least ≤ r.term) × (least_last ≤ r.last)
 
 abbrev AreRuns : ℕ → ℕ → List TermRun → Type 0
 AreRuns least least_last [] = Unit {0}
@@ -40,7 +41,7 @@ runs_are least least_last (r ∷ runs) h =
     let above : least ≤ r.term = leb-true least r.term terms.1 in
     let behind : least_last ≤ r.last = leb-true least_last r.last lasts.1 in
     let others = runs_are (r.term + 1) (r.last + 1) runs both.1 in (
-      ((bounded 9007199254740992 r.term terms.0, bounded 9007199254740991 r.last lasts.0, above, behind), lower least least_last (r.term + 1) (r.last + 1) runs (omega arith) (omega arith) others.0),
+      ((bounded term_limit r.term terms.0, bounded offset_limit r.last lasts.0, above, behind), lower least least_last (r.term + 1) (r.last + 1) runs (omega arith) (omega arith) others.0),
       (above, others.1),
       (behind, others.2),
     )
@@ -49,10 +50,7 @@ runs_from : (base_term base_count least least_last : ℕ) (runs : List TermRun) 
 unfolding run_from
 runs_from base_term base_count least least_last [] are terms lasts = refl
 runs_from base_term base_count least least_last (r ∷ runs) are terms lasts =
-    let small = are.0.1 in
-    let below : r.last < 18446744073709551616 = omega (arith, small) in
-    let last = and_from _ _ (lt-ltb r.last 18446744073709551616 below) (le-leb r.last 9007199254740991 small) in
-    and_from _ _ (and_from _ _ (and_from _ _ (within r.term are.0.0) (le-leb least r.term terms.0)) (and_from _ _ last (le-leb least_last r.last lasts.0)))
+    and_from _ _ (and_from _ _ (and_from _ _ (within term_limit r.term refl are.0.0) (le-leb least r.term terms.0)) (and_from _ _ (within offset_limit r.last refl are.0.1) (le-leb least_last r.last lasts.0)))
     (runs_from base_term base_count (r.term + 1) (r.last + 1) runs are.1 terms.1 lasts.1)
 
 each_is : (table : TermTable) (runs : List TermRun) → AreRuns table.base.term table.base.count runs → All (IsRunBehind table) runs
@@ -74,8 +72,8 @@ table_is table h =
     let items = and_parts (nat_lt (length table.runs) (2 ^ 32)) (is_course runs_course (table.base.term, table.base.count) table.runs) both.1 in
     let are = runs_are table.base.term table.base.count table.runs items.1 in
     record {
-      small_term = bounded 9007199254740992 table.base.term base.0;
-      small_count = bounded 9007199254740992 table.base.count base.1;
+      small_term = bounded term_limit table.base.term base.0;
+      small_count = bounded count_limit table.base.count base.1;
       countable = ltb-true (length table.runs) 4294967296 items.0;
       each = each_is table table.runs are.0;
       terms = rising table.base.term (terms_of table.runs) are.1;
@@ -98,5 +96,5 @@ table_from table t =
     let are = each_from table table.runs t.each in
     let terms = rises_of b.term (terms_of table.runs) (first_term b.term b.count table.runs are) t.terms in
     let lasts = rises_of b.count (lasts_of table.runs) (first_last b.term b.count table.runs are) t.lasts in
-    and_from _ _ (and_from _ _ (within b.term t.small_term) (within b.count t.small_count))
+    and_from _ _ (and_from _ _ (within term_limit b.term refl t.small_term) (within count_limit b.count refl t.small_count))
     (and_from _ _ (lt-ltb (length table.runs) 4294967296 t.countable) (runs_from b.term b.count b.term b.count table.runs are terms lasts))

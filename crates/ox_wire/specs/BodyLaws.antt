@@ -1,5 +1,6 @@
 -- The forms of what replicas and coordinators say to one another are exact.
 use Rattle.std.proofs.Common.{◌≡◌, ℕ, List, Some, refl, sym, ap}
+use Rattle.std.proofs.lemmas.Option.{same_Some}
 use Rattle.ox_types.specs.declared.log.Head.{Head}
 use Rattle.ox_types.specs.declared.log.TermTable.{TermTable}
 use Rattle.ox_types.specs.declared.log.Entry.{Entry}
@@ -23,9 +24,6 @@ use Rattle.ox_wire.specs.declared.body.Asked.TheVariants as asked_is
 use Rattle.ox_wire.specs.declared.body.Body.{Body}
 use Rattle.ox_wire.specs.declared.body.Body.TheVariants as body_is
 use Rattle.ox_wire.specs.BodyForms.{follower, follower_from, followers_course, followers, entry_behind, entries_course, entries_number, entries_from, append, asked_tag, asked_new_term, asked_become_leader, asked_add_follower, asked, body_tag, body_new_term, body_become_leader, body_add_follower, body_fenced, body_ready, body_refused, body_truncate, body_append, body_snapshot, body_ack, body_want, body}
-
-some_is : {A : Type 0} (x y : A) → Some x ≡ Some y → x ≡ y
-some_is x y h = cc
 
 pub follower_exact : IsExact follower
 unfolding follower
@@ -84,15 +82,15 @@ body_new_term_there (body_is.NewTerm t) got e = cc
 body_new_term_there _ got e = absurd cc
 
 body_become_leader_there : (x : Body) (got : ℕ × (Config × List Follower)) → body_become_leader x ≡ Some got → body_is.BecomeLeader got.0 got.1.0 got.1.1 ≡ x
-body_become_leader_there (body_is.BecomeLeader t c fs) got e = sym (ap (λ (p : ℕ × (Config × List Follower)). body_is.BecomeLeader p.0 p.1.0 p.1.1) (some_is (t, (c, fs)) got e))
+body_become_leader_there (body_is.BecomeLeader t c fs) got e = sym (ap (λ (p : ℕ × (Config × List Follower)). body_is.BecomeLeader p.0 p.1.0 p.1.1) (same_Some (t, (c, fs)) got e))
 body_become_leader_there _ got e = absurd cc
 
 body_add_follower_there : (x : Body) (got : ℕ × Follower) → body_add_follower x ≡ Some got → body_is.AddFollower got.0 got.1 ≡ x
-body_add_follower_there (body_is.AddFollower t f) got e = sym (ap (λ (p : ℕ × Follower). body_is.AddFollower p.0 p.1) (some_is (t, f) got e))
+body_add_follower_there (body_is.AddFollower t f) got e = sym (ap (λ (p : ℕ × Follower). body_is.AddFollower p.0 p.1) (same_Some (t, f) got e))
 body_add_follower_there _ got e = absurd cc
 
 body_fenced_there : (x : Body) (got : ℕ × TermTable) → body_fenced x ≡ Some got → body_is.Fenced got.0 got.1 ≡ x
-body_fenced_there (body_is.Fenced t table) got e = sym (ap (λ (p : ℕ × TermTable). body_is.Fenced p.0 p.1) (some_is (t, table) got e))
+body_fenced_there (body_is.Fenced t table) got e = sym (ap (λ (p : ℕ × TermTable). body_is.Fenced p.0 p.1) (same_Some (t, table) got e))
 body_fenced_there _ got e = absurd cc
 
 body_ready_there : (x : Body) (got : ℕ) → body_ready x ≡ Some got → body_is.Ready got ≡ x
@@ -100,15 +98,15 @@ body_ready_there (body_is.Ready t) got e = cc
 body_ready_there _ got e = absurd cc
 
 body_refused_there : (x : Body) (got : Asked × (ℕ × Refusal)) → body_refused x ≡ Some got → body_is.Refused got.0 got.1.0 got.1.1 ≡ x
-body_refused_there (body_is.Refused a t r) got e = sym (ap (λ (p : Asked × (ℕ × Refusal)). body_is.Refused p.0 p.1.0 p.1.1) (some_is (a, (t, r)) got e))
+body_refused_there (body_is.Refused a t r) got e = sym (ap (λ (p : Asked × (ℕ × Refusal)). body_is.Refused p.0 p.1.0 p.1.1) (same_Some (a, (t, r)) got e))
 body_refused_there _ got e = absurd cc
 
 body_truncate_there : (x : Body) (got : ℕ × ℕ) → body_truncate x ≡ Some got → body_is.Truncate got.0 got.1 ≡ x
-body_truncate_there (body_is.Truncate t c) got e = sym (ap (λ (p : ℕ × ℕ). body_is.Truncate p.0 p.1) (some_is (t, c) got e))
+body_truncate_there (body_is.Truncate t c) got e = sym (ap (λ (p : ℕ × ℕ). body_is.Truncate p.0 p.1) (same_Some (t, c) got e))
 body_truncate_there _ got e = absurd cc
 
 body_append_there : (x : Body) (got : ℕ × (ℕ × (ℕ × List Entry))) → body_append x ≡ Some got → body_is.Append got.0 got.1.0 got.1.1.0 got.1.1.1 ≡ x
-body_append_there (body_is.Append t from c es) got e = sym (ap (λ (p : ℕ × (ℕ × (ℕ × List Entry))). body_is.Append p.0 p.1.0 p.1.1.0 p.1.1.1) (some_is (t, (from, (c, es))) got e))
+body_append_there (body_is.Append t from c es) got e = sym (ap (λ (p : ℕ × (ℕ × (ℕ × List Entry))). body_is.Append p.0 p.1.0 p.1.1.0 p.1.1.1) (same_Some (t, (from, (c, es))) got e))
 body_append_there _ got e = absurd cc
 
 body_snapshot_there : (x : Body) (got : Chunk) → body_snapshot x ≡ Some got → body_is.Snapshot got ≡ x
@@ -116,11 +114,11 @@ body_snapshot_there (body_is.Snapshot c) got e = cc
 body_snapshot_there _ got e = absurd cc
 
 body_ack_there : (x : Body) (got : ℕ × ℕ) → body_ack x ≡ Some got → body_is.Ack got.0 got.1 ≡ x
-body_ack_there (body_is.Ack t c) got e = sym (ap (λ (p : ℕ × ℕ). body_is.Ack p.0 p.1) (some_is (t, c) got e))
+body_ack_there (body_is.Ack t c) got e = sym (ap (λ (p : ℕ × ℕ). body_is.Ack p.0 p.1) (same_Some (t, c) got e))
 body_ack_there _ got e = absurd cc
 
 body_want_there : (x : Body) (got : ℕ × (Head × ℕ)) → body_want x ≡ Some got → body_is.Want got.0 got.1.0 got.1.1 ≡ x
-body_want_there (body_is.Want t h n) got e = sym (ap (λ (p : ℕ × (Head × ℕ)). body_is.Want p.0 p.1.0 p.1.1) (some_is (t, (h, n)) got e))
+body_want_there (body_is.Want t h n) got e = sym (ap (λ (p : ℕ × (Head × ℕ)). body_is.Want p.0 p.1.0 p.1.1) (same_Some (t, (h, n)) got e))
 body_want_there _ got e = absurd cc
 
 pub body_exact : IsExact body

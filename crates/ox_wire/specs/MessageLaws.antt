@@ -1,5 +1,6 @@
 -- The forms of messages are exact.
 use Rattle.std.proofs.Common.{◌≡◌, ℕ, Bool, List, Some, refl, sym, ap}
+use Rattle.std.proofs.lemmas.Option.{same_Some}
 use Rattle.ox_types.specs.declared.peer.Peer.{Peer}
 use Rattle.ox_types.specs.declared.refusal.Refusal.{Refusal}
 use Rattle.ox_bytes.specs.Form.{IsExact, pair, empty}
@@ -22,15 +23,12 @@ use Rattle.ox_wire.specs.BodyForms.{body}
 use Rattle.ox_wire.specs.BodyLaws.{body_exact}
 use Rattle.ox_wire.specs.MessageForms.{outcome_tag, outcome_ack, outcome_read, outcome_refused, outcome, swap_refused_tag, swap_refused_unknown_shard, swap_refused_in_progress, swap_refused_not_member, swap_refused_unknown_node, swap_refused_already_member, swap_refused_terms_spent, swap_refused, swap_outcome_tag, swap_outcome_begun, swap_outcome_refused, swap_outcome, message_tag, message_peer, message_request, message_reply, message_swap, message_swap_reply, message}
 
-some_is : {A : Type 0} (x y : A) → Some x ≡ Some y → x ≡ y
-some_is x y h = cc
-
 outcome_ack_there : (x : Outcome) (got : ℕ × (ℕ × List ℕ)) → outcome_ack x ≡ Some got → outcome_is.Ack got.0 got.1.0 got.1.1 ≡ x
-outcome_ack_there (outcome_is.Ack t o r) got e = sym (ap (λ (p : ℕ × (ℕ × List ℕ)). outcome_is.Ack p.0 p.1.0 p.1.1) (some_is (t, (o, r)) got e))
+outcome_ack_there (outcome_is.Ack t o r) got e = sym (ap (λ (p : ℕ × (ℕ × List ℕ)). outcome_is.Ack p.0 p.1.0 p.1.1) (same_Some (t, (o, r)) got e))
 outcome_ack_there _ got e = absurd cc
 
 outcome_read_there : (x : Outcome) (got : ℕ × (ℕ × List ℕ)) → outcome_read x ≡ Some got → outcome_is.Read got.0 got.1.0 got.1.1 ≡ x
-outcome_read_there (outcome_is.Read t n a) got e = sym (ap (λ (p : ℕ × (ℕ × List ℕ)). outcome_is.Read p.0 p.1.0 p.1.1) (some_is (t, (n, a)) got e))
+outcome_read_there (outcome_is.Read t n a) got e = sym (ap (λ (p : ℕ × (ℕ × List ℕ)). outcome_is.Read p.0 p.1.0 p.1.1) (same_Some (t, (n, a)) got e))
 outcome_read_there _ got e = absurd cc
 
 outcome_refused_there : (x : Outcome) (got : Refusal) → outcome_refused x ≡ Some got → outcome_is.Refused got ≡ x
@@ -71,7 +69,7 @@ swap_refused_already_member_there (refused_is.AlreadyMember n) got e = cc
 swap_refused_already_member_there _ got e = absurd cc
 
 swap_refused_terms_spent_there : (x : SwapRefused) (got : ℕ × ℕ) → swap_refused_terms_spent x ≡ Some got → refused_is.TermsSpent got.0 got.1 ≡ x
-swap_refused_terms_spent_there (refused_is.TermsSpent t v) got e = sym (ap (λ (p : ℕ × ℕ). refused_is.TermsSpent p.0 p.1) (some_is (t, v) got e))
+swap_refused_terms_spent_there (refused_is.TermsSpent t v) got e = sym (ap (λ (p : ℕ × ℕ). refused_is.TermsSpent p.0 p.1) (same_Some (t, v) got e))
 swap_refused_terms_spent_there _ got e = absurd cc
 
 pub swap_refused_exact : IsExact swap_refused
@@ -115,23 +113,23 @@ swap_outcome_exact = choice_exact swap_outcome_tag _ (
 )
 
 message_peer_there : (x : Message) (got : Peer × (Peer × (ℕ × Body))) → message_peer x ≡ Some got → message_is.Peer got.0 got.1.0 got.1.1.0 got.1.1.1 ≡ x
-message_peer_there (message_is.Peer from to shard b) got e = sym (ap (λ (p : Peer × (Peer × (ℕ × Body))). message_is.Peer p.0 p.1.0 p.1.1.0 p.1.1.1) (some_is (from, (to, (shard, b))) got e))
+message_peer_there (message_is.Peer from to shard b) got e = sym (ap (λ (p : Peer × (Peer × (ℕ × Body))). message_is.Peer p.0 p.1.0 p.1.1.0 p.1.1.1) (same_Some (from, (to, (shard, b))) got e))
 message_peer_there _ got e = absurd cc
 
 message_request_there : (x : Message) (got : ℕ × (ℕ × (Bool × List ℕ))) → message_request x ≡ Some got → message_is.Request got.0 got.1.0 got.1.1.0 got.1.1.1 ≡ x
-message_request_there (message_is.Request n shard w b) got e = sym (ap (λ (p : ℕ × (ℕ × (Bool × List ℕ))). message_is.Request p.0 p.1.0 p.1.1.0 p.1.1.1) (some_is (n, (shard, (w, b))) got e))
+message_request_there (message_is.Request n shard w b) got e = sym (ap (λ (p : ℕ × (ℕ × (Bool × List ℕ))). message_is.Request p.0 p.1.0 p.1.1.0 p.1.1.1) (same_Some (n, (shard, (w, b))) got e))
 message_request_there _ got e = absurd cc
 
 message_reply_there : (x : Message) (got : ℕ × Outcome) → message_reply x ≡ Some got → message_is.Reply got.0 got.1 ≡ x
-message_reply_there (message_is.Reply n o) got e = sym (ap (λ (p : ℕ × Outcome). message_is.Reply p.0 p.1) (some_is (n, o) got e))
+message_reply_there (message_is.Reply n o) got e = sym (ap (λ (p : ℕ × Outcome). message_is.Reply p.0 p.1) (same_Some (n, o) got e))
 message_reply_there _ got e = absurd cc
 
 message_swap_there : (x : Message) (got : ℕ × (ℕ × (ℕ × ℕ))) → message_swap x ≡ Some got → message_is.Swap got.0 got.1.0 got.1.1.0 got.1.1.1 ≡ x
-message_swap_there (message_is.Swap n shard a b) got e = sym (ap (λ (p : ℕ × (ℕ × (ℕ × ℕ))). message_is.Swap p.0 p.1.0 p.1.1.0 p.1.1.1) (some_is (n, (shard, (a, b))) got e))
+message_swap_there (message_is.Swap n shard a b) got e = sym (ap (λ (p : ℕ × (ℕ × (ℕ × ℕ))). message_is.Swap p.0 p.1.0 p.1.1.0 p.1.1.1) (same_Some (n, (shard, (a, b))) got e))
 message_swap_there _ got e = absurd cc
 
 message_swap_reply_there : (x : Message) (got : ℕ × SwapOutcome) → message_swap_reply x ≡ Some got → message_is.SwapReply got.0 got.1 ≡ x
-message_swap_reply_there (message_is.SwapReply n o) got e = sym (ap (λ (p : ℕ × SwapOutcome). message_is.SwapReply p.0 p.1) (some_is (n, o) got e))
+message_swap_reply_there (message_is.SwapReply n o) got e = sym (ap (λ (p : ℕ × SwapOutcome). message_is.SwapReply p.0 p.1) (same_Some (n, o) got e))
 message_swap_reply_there _ got e = absurd cc
 
 pub message_exact : IsExact message

@@ -11,11 +11,11 @@ use Rattle.ox_types.specs.declared.peer.Peer.{Peer}
 use Rattle.ox_types.specs.declared.peer.Peer.TheVariants.{Node, Coordinator}
 use Rattle.ox_types.specs.declared.refusal.Refusal.{Refusal}
 use Rattle.ox_types.specs.Durable.{DurableState, count_of, folded, is_fenced}
+use Rattle.ox_bytes.specs.Texts.{value_in}
 use Rattle.ox_quorum.specs.declared.config.Config.{Config}
 use Rattle.ox_wire.specs.declared.body.Body.{Body}
 use Rattle.ox_wire.specs.declared.body.Body.TheVariants as body
 use Rattle.ox_machine.specs.Meaning.{Meaning}
-use Rattle.ox_machine.specs.Bytes.{value_in}
 use Rattle.ox_timer.specs.Timers.{due}
 use Rattle.ox_solo_replica.specs.declared.input.Input.{Input}
 use Rattle.ox_solo_replica.specs.declared.input.Input.TheVariants as input

@@ -1,6 +1,7 @@
 -- One event more: the text so far and that of what is left.
 use Rattle.std.specs.List.{list_all, flat_map}
 use Rattle.std.proofs.Common.{◌≡◌, ◌∙◌, ℕ, ◌+◌, ◌<◌, Bool, true, List, [], ◌∷◌, ◌++◌, length, map, Result, Ok, Err, IfOk, refl, sym, ap, subst, arith, append_assoc, append-nil}
+use Rattle.std.proofs.lemmas.Bool.{and_parts}
 use Rattle.ox_types.specs.declared.memory.NoMemory.{NoMemory}
 use Rattle.ox_schedule.specs.Events.{Event}
 use Rattle.ox_schedule.specs.declared.schedule.Schedule.{Schedule}
@@ -16,7 +17,7 @@ use Rattle.oxia_top.specs.Events.{event_of}
 use Rattle.oxia_top.specs.Report.{numbered_line, moment_text, moments_text, end_text, report_of, blocks_of, events_of, last_world}
 use Rattle.oxia_top.specs.Running.{Running, Follows}
 use Rattle.oxia_top.specs.Telling.{IsToldOf, AreToldOf}
-use Rattle.oxia_top.proofs.ScheduleLemmas.{both, all_there}
+use Rattle.oxia_top.proofs.ScheduleLemmas.{all_there}
 
 -- an event behind its line
 told_of : (old new : Running) (number : ℕ) (e : Event) (text lined text' : List ℕ) → lined ≡ text ++ numbered_line number e → Follows old (happens shard_meaning old.blocks old.world (event_of e)) lined text' new
@@ -69,8 +70,8 @@ may_happen old items rest rest' number first text now e t here =
     let encodable = rw here at t.encodable in
     record {
       before = omega (arith, count);
-      there = (both (is_of_one_node e) (list_all is_of_one_node rest') there).0;
-      encodable = (both (asks_encodable e) (list_all asks_encodable rest') encodable).0;
+      there = (and_parts (is_of_one_node e) (list_all is_of_one_node rest') there).0;
+      encodable = (and_parts (asks_encodable e) (list_all asks_encodable rest') encodable).0;
     }
 
 -- one event more
@@ -86,10 +87,10 @@ tells_next old items rest rest' number first text text' now next e t here one = 
 }
   where
     there : (is_of_one_node e ≡ true) × (list_all is_of_one_node rest' ≡ true)
-    there = (let h = rw here at t.there in both (is_of_one_node e) (list_all is_of_one_node rest') h)
+    there = (let h = rw here at t.there in and_parts (is_of_one_node e) (list_all is_of_one_node rest') h)
 
     encodable : (asks_encodable e ≡ true) × (list_all asks_encodable rest' ≡ true)
-    encodable = (let h = rw here at t.encodable in both (asks_encodable e) (list_all asks_encodable rest') h)
+    encodable = (let h = rw here at t.encodable in and_parts (asks_encodable e) (list_all asks_encodable rest') h)
 
     world : next.world ≡ (happens shard_meaning old.blocks now.world (event_of e)).world
     world = ap (λ (r : Running). r.world) one.is ∙ ap (λ b. (happens shard_meaning b now.world (event_of e)).world) t.blocks

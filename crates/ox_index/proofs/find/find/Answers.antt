@@ -2,7 +2,7 @@ use Rattle.std.proofs.Common.{◌∙◌, List, ap}
 use Rattle.std.specs.Ordering.{is_le}
 use Rattle.std.proofs.lemmas.List.{take_rest}
 use Rattle.ox_types.specs.Order.{bytes_cmp}
-use Rattle.ox_ops.specs.Answer.{first_of}
+use Rattle.ox_types.specs.Lists.{first_of}
 use Rattle.ox_index.specs.declared.added.Added.{Added}
 use Rattle.ox_index.specs.Order.{entry_cmp}
 use Rattle.ox_index.specs.Place.{kept}

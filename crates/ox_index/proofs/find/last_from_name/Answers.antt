@@ -1,7 +1,7 @@
 use Rattle.std.proofs.Common.{◌≡◌, ◌∙◌, refl, sym, ap, true, false, Some}
 use Rattle.std.specs.Ordering.{is_lt}
 use Rattle.ox_types.specs.Order.{bytes_cmp}
-use Rattle.ox_ops.specs.Answer.{last_of}
+use Rattle.ox_types.specs.Lists.{last_of}
 use Rattle.ox_index.proofs.Found.{last_of-place}
 use Rattle.ox_index.proofs.find.last_from_name.Goals as goal
 

@@ -1,16 +1,10 @@
-use Rattle.std.proofs.Common.{◌≡◌, true, refl, sym, ◌∙◌, ap, arith}
+use Rattle.std.proofs.Common.{true, sym, ◌∙◌, ap, arith}
 use Rattle.std.specs.Ordering.{is_eq}
-use Rattle.std.specs.declared.cmp.Ordering.{Ordering}
-use Rattle.std.specs.declared.cmp.Ordering.TheVariants.{Less, Equal, Greater}
+use Rattle.ox_types.specs.Comparisons.{equal_of}
 use Rattle.ox_index.specs.declared.added.Added.{Added}
 use Rattle.ox_index.specs.Order.{added_cmp}
 use Rattle.ox_index.proofs.Edits.{at_place, at_gap, at_end}
 use Rattle.ox_index.proofs.place.place_of.Goals as goal
-
-equal_of : (r : Ordering) → is_eq r ≡ true → r ≡ Equal
-equal_of Less e = cc e
-equal_of Equal e = refl
-equal_of Greater e = cc e
 
 pub returns-in-None : goal.returns-in-None
 returns-in-None c = let look = c.in-None.ensures.lookup in

@@ -1,7 +1,8 @@
 use Rattle.std.proofs.Common.{◌≡◌, ◌∷◌, [], suc, drop, sym, subst, drop-cons, add-one, slice_index_or}
 use Rattle.std.proofs.lemmas.List.{append-nil, drop_all}
 use Rattle.ox_types.specs.declared.timer.Timer.{Timer}
-use Rattle.ox_timer.specs.Order.{IdsRise, RunningRise}
+use Rattle.ox_types.specs.Timers.{IdsRise}
+use Rattle.ox_timer.specs.Order.{RunningRise}
 use Rattle.ox_timer.specs.Timers.{retimed}
 use Rattle.ox_timer.proofs.Merges.{merge_step, rise_retimed}
 use Rattle.ox_timer.proofs.merge.merged.Goals as goal

@@ -1,5 +1,5 @@
 use Rattle.std.proofs.Common.{◌≡◌, ◌≤◌, ◌++◌, drop, length}
-use Rattle.ox_timer.specs.Order.{IdsRise}
+use Rattle.ox_types.specs.Timers.{IdsRise}
 use Rattle.ox_timer.specs.Timers.{retimed}
 use Rattle.ox_timer.proofs.merge.merged.Given as goal
 

@@ -1,5 +1,5 @@
 use Rattle.std.proofs.Common.{sym}
-use Rattle.ox_wal.proofs.EntrySize.{pass_blocks, command_blocks}
+use Rattle.ox_bytes.specs.SizeLaws.{pass_blocks, command_blocks}
 use Rattle.ox_wal.proofs.action.entry_blocks.Goals as goal
 
 pub returns-in-Pass : goal.returns-in-Pass

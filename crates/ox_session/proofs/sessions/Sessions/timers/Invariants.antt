@@ -1,6 +1,7 @@
 use Rattle.std.proofs.Common.{◌≡◌, ◌++◌, map}
 use Rattle.std.specs.Map.Iter.{deref_pair}
-use Rattle.ox_session.specs.Members.{sessions_of, timer_of}
+use Rattle.ox_ops.specs.State.{timer_of}
+use Rattle.ox_session.specs.Members.{sessions_of}
 use Rattle.ox_session.proofs.sessions.Sessions.timers.Given as goal
 
 abbrev pub invariant-loop-id : goal.invariant-loop-id

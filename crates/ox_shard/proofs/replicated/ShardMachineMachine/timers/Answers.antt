@@ -2,8 +2,8 @@ use Rattle.std.proofs.Common.{◌≡◌, List, sym, subst}
 use Rattle.std.specs.Prelude.{map}
 use Rattle.std.proofs.lemmas.Result.{IfOk-weaker}
 use Rattle.ox_types.specs.declared.timer.Timer.{Timer}
-use Rattle.ox_machine.specs.Laws.{IdsRise}
-use Rattle.ox_meaning.specs.Shard.{timer_of}
+use Rattle.ox_types.specs.Timers.{IdsRise}
+use Rattle.ox_ops.specs.State.{timer_of}
 use Rattle.ox_meaning.specs.ShardLaws.{ids_rise}
 use Rattle.ox_shard.proofs.replicated.ShardMachineMachine.timers.Goals as goal
 
