@@ -1,0 +1,22 @@
+-- Lemmas of this crate: of lists, of terms and configs, of tales; then a short story, and wrong ones.
+pub mod Beginnings
+pub mod Fronts
+pub mod Majorities
+pub mod Facts
+pub mod Completeness
+pub mod Moments
+pub mod Soundness
+pub mod Stems
+pub mod Seats
+pub mod Leaders
+pub mod Openings
+pub mod Matching
+pub mod Keeping
+pub mod ShortTales
+pub mod HonestStory
+pub mod OtherRules
+pub mod WrongQuorum
+pub mod WrongChain
+pub mod WrongHead
+pub mod WrongAttach
+pub mod WrongCommit
